@@ -1,0 +1,4 @@
+pub mod Cells
+pub mod Sets
+pub mod Truth
+pub mod Values
