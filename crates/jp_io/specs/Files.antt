@@ -9,6 +9,10 @@ use Rattle.jp_io.specs.declared.reading.FileError.TheVariants as file_error
 abbrev pub Rose : ℕ → ℕ → Type 0
 Rose before now = min (before + 1) (2 ^ 64 - 1) ≤ now
 
+-- a count that rises by one, or stands at the end of its range
+abbrev pub one_more : ℕ → ℕ
+one_more count = min (count + 1) (2 ^ 64 - 1)
+
 -- the count of no name falls
 abbrev pub NoneFalls : (List ℕ → ℕ) → (List ℕ → ℕ) → Type 0
 NoneFalls before now = (name : List ℕ) → before name ≤ now name

@@ -14,9 +14,16 @@ told_files s = first_named s.files.items
 abbrev pub holds_name : MemFiles → List ℕ → Bool
 holds_name s name = is_some (told_files s name)
 
+-- how many calls on names that are held failed, and how many on other names
+abbrev pub held_count : MemFiles → ℕ
+held_count s = s.held_faults
+
+abbrev pub other_count : MemFiles → ℕ
+other_count s = s.other_faults
+
 -- one number is the count of each name that is held, another that of each other name
 abbrev pub fault_count : MemFiles → List ℕ → ℕ
-fault_count s name = if holds_name s name then s.held_faults else s.other_faults
+fault_count s name = if holds_name s name then held_count s else other_count s
 
 -- how many calls were made
 abbrev pub call_count : MemFiles → ℕ

@@ -1,7 +1,7 @@
-ghost use Rattle.std.specs.Prelude.{◌≡◌, ℕ, ◌+◌, ◌-◌, ◌^◌, ◌<◌, ◌≤◌, min, List, length, take, drop, Option, Some, option_map, IfOk, OnErr, is_err, Result, Ok};
+ghost use Rattle.std.specs.Prelude.{◌≡◌, ℕ, ◌+◌, ◌-◌, ◌^◌, ◌<◌, ◌≤◌, min, List, length, take, drop, Option, Some, option_map, IfOk, OnErr, is_err, ◌&&◌, if◌then◌else◌};
 ghost use Rattle.std.specs.Io.{ReadsAtMost};
-ghost use Rattle.jp_io.specs.Files.{Rose, NoneFalls, StaysSound, ReadsAt, ReadsBytes};
-ghost use Rattle.jp_io.specs.MemFiles.{first_named, told_files, fault_count, call_count, failing_calls, is_surely_read, fails_at};
+ghost use Rattle.jp_io.specs.Files.{Rose, one_more, NoneFalls, StaysSound, ReadsAt, ReadsBytes};
+ghost use Rattle.jp_io.specs.MemFiles.{first_named, told_files, holds_name, held_count, other_count, fault_count, call_count, failing_calls, is_surely_read, fails_at};
 
 use crate::{Failed, Files};
 use jp_base::Txt;
@@ -49,8 +49,12 @@ impl Files for MemFiles {
         ensures bytes { ReadsBytes (told_files self.old name.now) at result into.new }
         ensures sound { StaysSound (is_surely_read self.old) (is_surely_read self.new)
             (fault_count self.old) (fault_count self.new) }
-        ensures calls { call_count self.new ≡ min (call_count self.old + 1) (2 ^ 64 - 1) }
+        ensures calls { call_count self.new ≡ one_more (call_count self.old) }
         ensures failing { failing_calls self.new ≡ failing_calls self.old }
+        ensures held { held_count self.new ≡ (if is_err result && holds_name self.old name.now
+            then one_more (held_count self.old) else held_count self.old) }
+        ensures others { other_count self.new ≡ (if holds_name self.old name.now
+            then other_count self.old else one_more (other_count self.old)) }
         ensures fails { is_err result ≡ fails_at self.old (call_count self.new) name.now }
     {
         self.calls = self.calls.saturating_add(1);

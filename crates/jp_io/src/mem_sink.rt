@@ -1,4 +1,4 @@
-ghost use Rattle.std.specs.Prelude.{◌≡◌, ℕ, ◌+◌, ◌-◌, ◌^◌, ◌<◌, ◌≤◌, min, List, [], length, Some, IfOk, OnErr, is_err, vec_len, vec_capacity};
+ghost use Rattle.std.specs.Prelude.{◌≡◌, ℕ, ◌+◌, ◌-◌, ◌^◌, ◌<◌, ◌≤◌, min, List, [], length, Some, IfOk, OnErr, is_err, if◌then◌else◌, vec_len, vec_capacity};
 ghost use Rattle.std.specs.Io.{WritesAtMost};
 
 use crate::{Failed, Sink};
@@ -60,6 +60,7 @@ impl MemSink {
 
 impl Sink for MemSink {
     ghost use Rattle.jp_io.specs.MemSink.{taken_bytes, fault_count, call_count, failing_calls, piece_size, room_left, sure_room, fails_at, takes_of};
+    ghost use Rattle.jp_io.specs.Files.{one_more};
     ghost use Rattle.jp_io.specs.Sinks.{Rose, TakesFirst, WritesSurely};
 
     ghost taken = { λ s. Some (taken_bytes s) };
@@ -76,7 +77,9 @@ impl Sink for MemSink {
         ensures cause { OnErr result (Rose (fault_count self.old) (fault_count self.new)) }
         ensures sure { WritesSurely (sure_room self.old) (sure_room self.new)
             (fault_count self.old) (fault_count self.new) result bytes.now }
-        ensures calls { call_count self.new ≡ min (call_count self.old + 1) (2 ^ 64 - 1) }
+        ensures calls { call_count self.new ≡ one_more (call_count self.old) }
+        ensures counts { fault_count self.new ≡ (if is_err result then one_more (fault_count self.old)
+            else fault_count self.old) }
         ensures failing { failing_calls self.new ≡ failing_calls self.old }
         ensures piece { piece_size self.new ≡ piece_size self.old }
         ensures left { IfOk result (λ n. room_left self.new ≡ room_left self.old - n) }

@@ -1,12 +1,38 @@
+ghost use Rattle.std.specs.Prelude.{◌≡◌, Some, IsSome, IsErrOf, IfOk};
+ghost use Rattle.jp_io.specs.MemFiles.{first_named};
+ghost use Rattle.jp_io.specs.MemSink.{taken_bytes};
+
 use crate::{
     Failed, FileError, MemFiles, MemSink, RealFiles, RealSink, Sink, SinkError, read_file,
     write_all,
 };
-use jp_base::Txt;
+use jp_base::{Memory, Txt};
 use std::alloc::Global;
 use std::io;
 use std::io::Write;
 use std::test::Fail;
+
+/// A caller's use of the counts: where no call is to fail, a file that is held is read without a fault.
+fn read_calm(alloc: Global, files: Vec<(Txt, Vec<u8>)>, name: &str) -> Result<Vec<u8>, FileError>
+    requires { IsSome (first_named files.items name.now) }
+    ensures calm { IsErrOf result FileError.Failed → ⊥ }
+    ensures whole { IfOk result (λ v. first_named files.items name.now ≡ Some v.items) }
+{
+    let mut files = MemFiles::new(files, Vec::new(alloc));
+    let bytes = read_file(alloc, &mut files, name, 100)?;
+    Ok(bytes)
+}
+
+/// The same of a sink with room for all that is written.
+fn write_calm(alloc: Global, bytes: &[u8]) -> Result<MemSink, Memory>
+    ensures { IfOk result (λ s. taken_bytes s ≡ bytes.now) }
+{
+    let mut sink = MemSink::new(alloc, 4, bytes.len(), Vec::new(alloc))?;
+    match write_all(&mut sink, bytes) {
+        Ok(()) => Ok(sink),
+        Err(_) => unreachable!(),
+    }
+}
 
 /// Two files of one name, of which the first counts, and an empty one.
 fn some_files(alloc: Global, failing: Vec<u64>) -> Result<MemFiles, Fail> {
