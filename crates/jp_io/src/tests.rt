@@ -19,8 +19,8 @@ fn read_calm(alloc: Global, files: Vec<(Txt, Vec<u8>)>, name: &str) -> Result<Ve
     ensures whole { IfOk result (λ v. first_named files.items name.now ≡ Some v.items) }
 {
     let mut files = MemFiles::new(files, Vec::new(alloc));
-    let bytes = read_file(alloc, &mut files, name, 100)?;
-    Ok(bytes)
+    let outcome = read_file(alloc, &mut files, name, 100);
+    outcome
 }
 
 /// The same of a sink with room for all that is written.
@@ -79,6 +79,8 @@ fn writes_to_memory(rt: HostRuntime) -> Result<(), Fail> {
         Err(SinkError::Failed(4))
     );
     assert_eq!(rt; calm.bytes(), b"id\n2\n10\n1".as_slice());
+    let sink = write_calm(alloc, b"id\n2\n")?;
+    assert_eq!(rt; sink.bytes(), b"id\n2\n".as_slice());
     let mut second = MemSink::new(alloc, 4, 100, [2].to_vec(alloc)?)?;
     assert_eq!(rt;
         write_all(&mut second, b"id\n2\n"),
