@@ -12,8 +12,8 @@ use jp_base::{Memory, Txt};
 use sqlite_items::{Boxed, Items};
 use std::alloc::Global;
 
-#[tactic(auto, unfolding(crate::specs::First::statement_of))]
 /// The statement of a source of the form `SELECT name FROM name WHERE name op NUMBER [;]`.
+#[tactic(auto, unfolding(crate::specs::First::statement_of))]
 pub fn parse_first(alloc: Global, src: &[u8]) -> Result<Stmt, FirstError>
     requires { length src.now ≤ 65536 }
     ensures { Agrees result (spec.statement_of src.now) }

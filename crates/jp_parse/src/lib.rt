@@ -3,6 +3,8 @@
 
 mod errors;
 mod first;
+#[cfg(test)]
+mod tests;
 mod tokens;
 mod tree;
 mod words;

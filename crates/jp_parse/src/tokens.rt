@@ -171,8 +171,8 @@ fn symbol_of(first: u8, second: u8) -> Result<(What, usize), FirstError>
     }
 }
 
-#[tactic(auto, unfolding(crate::specs::Tokens::token_of))]
 /// The token that `bytes` begins with, and how many bytes it takes.
+#[tactic(auto, unfolding(crate::specs::Tokens::token_of))]
 fn token_at_front(alloc: Global, bytes: &[u8]) -> Result<(What, usize), FirstError>
     requires { 0 < length bytes.now }
     ensures value { Agrees result (spec.token_of bytes.now) }

@@ -68,8 +68,8 @@ fn found_word(mut table: &[(&[u8], Word)], text: &[u8]) -> Option<Word>
     None
 }
 
-#[tactic(auto, unfolding(crate::specs::Words::reserved_word, crate::specs::Words::reserved_words))]
 /// The reserved word that a text in lower case is, if it is one.
+#[tactic(auto, unfolding(crate::specs::Words::reserved_word, crate::specs::Words::reserved_words))]
 pub fn reserved_word(text: &[u8]) -> Option<Word>
     ensures { result ≡ spec.reserved_word text.now }
 {
