@@ -1,0 +1,4 @@
+pub mod Chars
+pub mod First
+pub mod Tokens
+pub mod Words
