@@ -2,7 +2,9 @@
 #![tactic(auto)]
 
 mod error;
+mod level;
 mod named;
+mod place;
 mod types;
 
 pub use error::CatalogError;
