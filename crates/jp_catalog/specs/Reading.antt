@@ -68,9 +68,7 @@ name_fits path name = if nat_le 1 (length name) && nat_le (length name) 63 then 
 abbrev pub type_read : List ℕ → List ℕ → Read Ty
 type_read path word =
     if bytes_eq word (codes "number") then Ok Number
-    else if bytes_eq word (codes "boolean") then Ok Boolean
-    else if bytes_eq word (codes "text") then Ok Text
-    else Err (error.BadType path)
+    else (if bytes_eq word (codes "boolean") then Ok Boolean else (if bytes_eq word (codes "text") then Ok Text else Err (error.BadType path)))
 
 -- what an earlier column with the name has, of which there must be none
 abbrev pub name_new : List ℕ → Option Ty → Read (Unit {0})
@@ -100,10 +98,9 @@ count_of (item entry more) = count_of more + 1
 
 -- from 1 to 64 columns
 abbrev pub entries_read : List ℕ → Items → Read (List NamedColumn)
-entries_read table no_items = Err (error.BadType (field_path table (codes "columns")))
-entries_read table (item entry more) =
-    if nat_le (count_of (item entry more)) 64 then columns_after table [] (item entry more)
-    else Err (error.TooManyColumns (field_path table (codes "columns")))
+entries_read table entries =
+    if count_of entries == 0 then Err (error.BadType (field_path table (codes "columns")))
+    else (if nat_le (count_of entries) 64 then columns_after table [] entries else Err (error.TooManyColumns (field_path table (codes "columns"))))
 
 abbrev pub columns_read : List ℕ → Option Data → Read (List NamedColumn)
 columns_read table None = Err (error.Missing (field_path table (codes "columns")))
@@ -126,9 +123,9 @@ places_after path columns found (item name more) = key_column_read path columns 
 
 -- a key names at least one column
 abbrev pub names_read : List ℕ → List NamedColumn → Bool → Items → Read Key
-names_read path columns primary no_items = Err (error.KeyColumn path)
-names_read path columns primary (item name more) =
-    places_after path columns [] (item name more) >>= (λ places. Ok (record { columns = places; primary = primary }))
+names_read path columns primary names =
+    if count_of names == 0 then Err (error.KeyColumn path)
+    else (places_after path columns [] names >>= (λ places. Ok (record { columns = places; primary = primary })))
 
 abbrev pub key_read : List ℕ → List NamedColumn → Bool → Data → Read Key
 key_read path columns primary value = of_kind path (as_array value) >>= names_read path columns primary
