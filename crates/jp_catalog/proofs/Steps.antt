@@ -1,5 +1,5 @@
 -- One turn of each loop of the reader.
-use Rattle.std.proofs.Common.{◌≡◌, ℕ, ◌+◌, ◌<◌, Bool, true, false, List, [], ◌∷◌, ◌++◌, length, get_or, drop, map, Option, None, Ok, Err, Less, Greater, String, Global, string_bytes, nat_cmp, refl, sym, ap, ◌∙◌, rules, arith, append_assoc, inl, inr}
+use Rattle.std.proofs.Common.{◌≡◌, ℕ, ◌+◌, ◌<◌, false, List, [], ◌∷◌, ◌++◌, length, get_or, drop, map, None, Result, Ok, Err, Less, Greater, String, Global, string_bytes, nat_cmp, refl, sym, ap, subst, ◌∙◌, arith, append_assoc, inl, inr}
 use Rattle.std.proofs.lemmas.Cmp.{nat_list_cmp_total}
 use Rattle.std.proofs.lemmas.List.{append-nil}
 use Rattle.std.proofs.lemmas.Map.Text.{is_eq-slice_cmp}
@@ -13,7 +13,8 @@ use Rattle.std.specs.String.{string_cmp}
 use Rattle.toml.specs.View.{view, items_view, members_view}
 use Rattle.toml.specs.declared.value.Value.{Value}
 use Rattle.toml.proofs.Views.{Entry, items_view-drop}
-use Rattle.jp_base.specs.declared.values.Ty.{Ty}
+use Rattle.indexmap.specs.IndexMap.{IndexMap, insert_entry}
+use Rattle.indexmap.proofs.CallerLemmas.{insert_entry-new}
 use Rattle.jp_catalog.specs.Names.{value_of}
 use Rattle.jp_catalog.specs.Paths.{unique_path}
 use Rattle.jp_catalog.specs.Reading.{Read, Agrees, ◌>>=◌, NamedColumn, NamedTable, count_of, column_read, columns_after, key_column_read, places_after, key_read, unique_from, table_read, tables_read}
@@ -87,3 +88,31 @@ new_table (x ∷ done) (y ∷ found) e more h same =
     nat_list_cmp_total.antisymm (string_bytes e.0) (string_bytes x.0) ∙ ap ordering_reverse (below_middle x done e more h.0) in
     let other : bytes_eq (string_bytes e.0) (string_bytes x.0) ≡ false = sym (is_eq-slice_cmp (string_bytes e.0) (string_bytes x.0)) ∙ ap is_eq above in
     rw (heads, other) (new_table done found e more h.1 tails)
+
+-- how far the loop over the tables has come: found is what the tables before those left say
+abbrev pub HasRead : List Entry → List NamedTable → List Entry → Type 0
+HasRead all found left =
+    (done : List Entry) × (all ≡ done ++ left) × (keys_of found ≡ map string_bytes (keys_of done)) × (front found (tables_read (members_view left)) ≡ tables_read (members_view all))
+
+keys_of-push : (found : List NamedTable) (column : NamedTable) → keys_of (found ++ column ∷ []) ≡ keys_of found ++ column.0 ∷ []
+keys_of-push [] column = refl
+keys_of-push (x ∷ found) column = ap (λ ks. x.0 ∷ ks) (keys_of-push found column)
+
+names-push : (done : List Entry) (e : Entry) → map string_bytes (keys_of (done ++ e ∷ [])) ≡ map string_bytes (keys_of done) ++ string_bytes e.0 ∷ []
+names-push [] e = refl
+names-push (x ∷ done) e = ap (λ ks. string_bytes x.0 ∷ ks) (names-push done e)
+
+pub tables_turn : {S : Type 0} (all left next : List Entry) (e : Entry) (m : IndexMap (List ℕ) TableDef S) (new : List NamedTable) (def : TableDef)
+    → IsStrictlySortedBy string_cmp (keys_of all) → left ≡ e ∷ next → table_read (string_bytes e.0) (view e.1) ≡ Ok def
+    → new ≡ insert_entry bytes_eq m.entries (string_bytes e.0) def → HasRead all m.entries left → HasRead all new next
+tables_turn all left next e m new def sorted first read put (done, whole, same, reads) =
+    let split : all ≡ done ++ e ∷ next = whole ∙ ap (λ es. done ++ es) first in
+    let fresh = new_table done m.entries e next (subst (λ es. IsStrictlySortedBy string_cmp (keys_of es)) split sorted) same in
+    let pushed : new ≡ m.entries ++ (string_bytes e.0, def) ∷ [] = put ∙ insert_entry-new bytes_eq m (string_bytes e.0) def fresh in
+    let step = tables_step m.entries e next def read in
+    let before : front m.entries (tables_read (members_view (e ∷ next))) ≡ tables_read (members_view all) = ap (λ es. front m.entries (tables_read (members_view es))) (sym first) ∙ reads in (
+      done ++ e ∷ [],
+      split ∙ sym (append_assoc done (e ∷ []) next),
+      ap keys_of pushed ∙ keys_of-push m.entries (string_bytes e.0, def) ∙ ap (λ ks. ks ++ string_bytes e.0 ∷ []) same ∙ sym (names-push done e),
+      ap (λ found. front found (tables_read (members_view next))) pushed ∙ sym step ∙ before,
+    )

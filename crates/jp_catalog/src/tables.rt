@@ -1,5 +1,7 @@
-ghost use Rattle.std.specs.Prelude.{◌≡◌};
+ghost use Rattle.std.specs.Prelude.{◌≡◌, OnOk, IfErr};
 ghost use Rattle.std.specs.Option.{option_map};
+ghost use Rattle.std.specs.Str.{bytes_eq};
+ghost use Rattle.indexmap.specs.IndexMap.{insert_entry};
 ghost use Rattle.toml.specs.View.{view, table_view};
 ghost use Rattle.jp_catalog.specs.Paths.{path_of};
 ghost use Rattle.jp_catalog.specs.Reading.{Agrees, rows_read, table_read, tables_read};
@@ -11,6 +13,7 @@ use crate::level::Level;
 use crate::place::{Place, text_of};
 use crate::{CatalogError, TableDef, TableDefs};
 use indexmap::IndexMap;
+use jp_base::Txt;
 use std::alloc::Global;
 use toml::{Table, Value};
 
@@ -22,12 +25,24 @@ pub(crate) fn read_tables(alloc: Global, tables: &Table) -> Result<TableDefs, Ca
     for (name, value) in tables.iter() {
         let def = read_table(alloc, name.as_str(), value)?;
         let name = text_of(alloc, name.as_str())?;
-        match defs.insert(name, def) {
-            Ok(_) => {}
-            Err(_) => return Err(CatalogError::Memory),
-        }
+        put(&mut defs, name, def)?;
     }
     Ok(TableDefs::from_map(defs))
+}
+
+/// Puts a table in.
+fn put(
+    defs: &mut IndexMap<Txt, TableDef>,
+    name: Txt,
+    def: TableDef,
+) -> Result<(), CatalogError>
+    ensures put { OnOk result (defs.new.entries ≡ insert_entry bytes_eq defs.old.entries name def) }
+    ensures memory { IfErr result (λ e. e ≡ CatalogError.Memory) }
+{
+    match defs.insert(name, def) {
+        Ok(_) => Ok(()),
+        Err(_) => Err(CatalogError::Memory),
+    }
 }
 
 /// One table.
