@@ -1,7 +1,9 @@
-ghost use Rattle.std.specs.Prelude.{◌≡◌, Some, None, if◌then◌else◌};
+ghost use Rattle.std.specs.Prelude.{◌≡◌, Some, None, if◌then◌else◌, IfOk};
 ghost use Rattle.std.specs.Option.{option_map};
 ghost use Rattle.std.specs.Str.{is_utf8};
 ghost use Rattle.toml.specs.View.{view, table_view};
+ghost use Rattle.jp_catalog.specs.Names.{HasDistinctNames};
+ghost use Rattle.jp_catalog.specs.Sound.{IsSound};
 ghost use Rattle.jp_catalog.specs.Reading.{Agrees, is_version, top_tables_read, document_read, catalogue_of};
 
 use crate::checks::{unknown_key, value_at};
@@ -15,7 +17,8 @@ use toml::{Table, Value};
 /// The catalogue that a text says, or the first refusal in the order of checks: the text is TOML; `version`;
 /// unknown keys at the top, ascending; `tables`; each table, ascending by name.
 pub fn read_catalog(alloc: Global, bytes: &[u8]) -> Result<Catalog, CatalogError>
-    ensures { Agrees result (catalogue_of bytes.now) }
+    ensures agrees { Agrees result (catalogue_of bytes.now) }
+    ensures sound { IfOk result IsSound }
 {
     let Some(text) = as_text(bytes) else {
         return Err(CatalogError::NotToml);
@@ -42,7 +45,8 @@ fn as_text(bytes: &[u8]) -> Option<&str>
 
 /// The catalogue of a TOML document.
 fn read_document(alloc: Global, top: &Table) -> Result<Catalog, CatalogError>
-    ensures { Agrees result (document_read (Some (table_view top.now))) }
+    ensures agrees { Agrees result (document_read (Some (table_view top.now))) }
+    ensures names { IfOk result (λ catalog. HasDistinctNames catalog.tables) }
 {
     if !is_version(value_at(top, "version")) {
         return Err(CatalogError::Version);
@@ -66,7 +70,8 @@ fn is_version(value: Option<&Value>) -> bool
 
 /// The tables of the document.
 fn read_top_tables(alloc: Global, value: Option<&Value>) -> Result<TableDefs, CatalogError>
-    ensures { Agrees result (top_tables_read (option_map (λ v. view v.now) value.entry)) }
+    ensures agrees { Agrees result (top_tables_read (option_map (λ v. view v.now) value.entry)) }
+    ensures names { IfOk result HasDistinctNames }
 {
     let place = Place::Top("tables");
     let Some(value) = value else {

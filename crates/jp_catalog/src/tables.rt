@@ -1,8 +1,9 @@
-ghost use Rattle.std.specs.Prelude.{◌≡◌, OnOk, IfErr};
+ghost use Rattle.std.specs.Prelude.{◌≡◌, OnOk, IfOk, IfErr};
 ghost use Rattle.std.specs.Option.{option_map};
 ghost use Rattle.std.specs.Str.{bytes_eq};
 ghost use Rattle.indexmap.specs.IndexMap.{insert_entry};
 ghost use Rattle.toml.specs.View.{view, table_view};
+ghost use Rattle.jp_catalog.specs.Names.{HasDistinctNames};
 ghost use Rattle.jp_catalog.specs.Paths.{path_of};
 ghost use Rattle.jp_catalog.specs.Reading.{Agrees, rows_read, table_read, tables_read};
 
@@ -19,7 +20,8 @@ use toml::{Table, Value};
 
 /// The tables, ascending by name.
 pub(crate) fn read_tables(alloc: Global, tables: &Table) -> Result<TableDefs, CatalogError>
-    ensures { Agrees result (tables_read (table_view tables.now)) }
+    ensures agrees { Agrees result (tables_read (table_view tables.now)) }
+    ensures names { IfOk result HasDistinctNames }
 {
     let mut defs = IndexMap::new(alloc);
     for (name, value) in tables.iter() {
