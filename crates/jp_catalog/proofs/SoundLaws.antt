@@ -1,5 +1,5 @@
 -- What was read is sound.
-use Rattle.std.proofs.Common.{◌≡◌, ℕ, ◌+◌, ◌<◌, ◌≤◌, ◌==◌, Bool, true, false, ◌||◌, ◌&&◌, nat_eq, nat_le, List, [], ◌∷◌, ◌++◌, length, get_or, Option, Some, None, Result, Ok, Err, pos, negsuc, ℤ, codes, refl, sym, ap, subst, ◌∙◌, arith, length-append, inl, inr}
+use Rattle.std.proofs.Common.{◌≡◌, ℕ, ◌+◌, ◌<◌, ◌≤◌, ◌==◌, Bool, true, false, ◌||◌, ◌&&◌, nat_eq, nat_le, List, [], ◌∷◌, ◌++◌, length, Option, Some, None, Ok, Err, pos, negsuc, ℤ, codes, refl, ap, subst, arith, length-append, inl, inr}
 use Rattle.std.proofs.lemmas.Bool.{cases_Bool}
 use Rattle.std.proofs.lemmas.Bool.Decides.{nat_tests}
 use Rattle.std.proofs.lemmas.Cmp.{nat_list_eq_equiv}
@@ -14,7 +14,7 @@ use Rattle.jp_base.specs.declared.values.Ty.{Ty}
 use Rattle.jp_catalog.specs.Names.{place_of, value_of, HasDistinctNames}
 use Rattle.jp_catalog.specs.Paths.{field_path, column_path, column_field_path, table_path, unique_path}
 use Rattle.jp_catalog.specs.Reading.{Read, ◌>>=◌, NamedColumn, NamedTable, of_kind, text_read, name_fits, name_new, keys_known, unknown_key, type_read, column_read, columns_after, count_of, entries_read, columns_read, place_read, key_column_read, places_after, names_read, key_read, primary_read, unique_from, unique_read, keys_read, rows_fit, rows_read, table_read, tables_read, version_read, top_tables_read, document_read}
-use Rattle.jp_catalog.specs.Sound.{IsSoundKey, IsSoundTable, IsSound}
+use Rattle.jp_catalog.specs.Sound.{IsSoundKey, IsSoundTable}
 use Rattle.jp_catalog.specs.declared.level.Level.TheVariants as level
 use Rattle.jp_catalog.specs.declared.types.Catalog.{Catalog}
 use Rattle.jp_catalog.specs.declared.types.Key.{Key}
@@ -94,7 +94,7 @@ module _ (table : List ℕ) (found : List NamedColumn) where
       let (ty, _, h7) = bound (type_read (place (codes "type")) word) (λ ty. Ok (text, ty)) column h6 in
       let made : NamedColumn = (text, ty) in
       let same : made ≡ column = cc in
-      subst (λ (c : NamedColumn). value_of c.0 found ≡ None) same (new_none (place (codes "name")) (value_of text found) done new)
+      subst (λ (c : NamedColumn). value_of c.0 found ≡ None) {x = made} same (new_none (place (codes "name")) (value_of text found) done new)
 
 columns_sound : (table : List ℕ) (found : List NamedColumn) (entries : Items) (columns : List NamedColumn) → HasDistinctNames found → columns_after table found entries ≡ Ok columns
     → HasDistinctNames columns × (length columns ≡ length found + count_of entries)
@@ -117,16 +117,16 @@ entries_sound table entries columns h =
     elim (cases_Bool (count_of entries == 0)) [
       | inl none ↦ let k = rw none at h in cc
       | inr some ↦
-      let k = rw some at h in
-      elim (cases_Bool (nat_le (count_of entries) 64)) [
-        | inl few ↦
-        let k2 = rw few at k in
-        let r = columns_sound table [] entries columns tt k2 in
-        let least : 1 ≤ count_of entries = grind (arith, nat_tests) in
-        let most : count_of entries ≤ 64 = grind (arith, nat_tests) in
-        (r.0, omega (arith, r.1), omega (arith, r.1))
-        | inr many ↦ let k2 = rw many at k in cc
-      ]
+          let k = rw some at h in
+          elim (cases_Bool (nat_le (count_of entries) 64)) [
+            | inl few ↦
+                let k2 = rw few at k in
+                let r = columns_sound table [] entries columns tt k2 in
+                let least : 1 ≤ count_of entries = grind (arith, nat_tests) in
+                let most : count_of entries ≤ 64 = grind (arith, nat_tests) in
+                (r.0, omega (arith, r.1), omega (arith, r.1))
+            | inr many ↦ let k2 = rw many at k in cc
+          ]
     ]
 
 columns_read_sound : (table : List ℕ) (value : Option Data) (columns : List NamedColumn) → columns_read table value ≡ Ok columns → AreSoundColumns columns
@@ -169,13 +169,13 @@ names_sound path columns primary names key h =
     elim (cases_Bool (count_of names == 0)) [
       | inl none ↦ let k = rw none at h in cc
       | inr some ↦
-      let k = rw some at h in
-      let (places, read, last) = bound (places_after path columns [] names) (λ ps. Ok (record { columns = ps; primary = primary })) key k in
-      let r = places_sound path columns [] names places tt (All-nil (λ c. c < length columns)) read in
-      let least : 1 ≤ count_of names = grind (arith, nat_tests) in
-      let made : Key = record { columns = places; primary = primary } in
-      let same : made ≡ key = cc in
-      subst (IsSoundKey (length columns)) same (record { some = omega (arith, r.2); distinct = r.0; there = r.1 })
+          let k = rw some at h in
+          let (places, read, last) = bound (places_after path columns [] names) (λ ps. Ok (record { columns = ps; primary = primary })) key k in
+          let r = places_sound path columns [] names places tt (All-nil (λ c. c < length columns)) read in
+          let least : 1 ≤ count_of names = grind (arith, nat_tests) in
+          let made : Key = record { columns = places; primary = primary } in
+          let same : made ≡ key = cc in
+          subst (IsSoundKey (length columns)) {x = made} same (record { some = omega (arith, r.2); distinct = r.0; there = r.1 })
     ]
 
 key_sound : (path : List ℕ) (columns : List NamedColumn) (primary : Bool) (value : Data) (key : Key) → key_read path columns primary value ≡ Ok key → IsSoundKey (length columns) key
@@ -218,10 +218,10 @@ rows_fit_sound : (path : List ℕ) (number : ℤ) (rows : ℕ) → rows_fit path
 rows_fit_sound path (pos n) rows h =
     elim (cases_Bool (nat_le 1 n && nat_le n 4294967295)) [
       | inl fits ↦
-      let k = rw fits at h in
-      let least : 1 ≤ n = grind (arith, nat_tests) in
-      let same : n ≡ rows = cc in
-      omega (arith, same)
+          let k = rw fits at h in
+          let least : 1 ≤ n = grind (arith, nat_tests) in
+          let same : n ≡ rows = cc in
+          omega (arith, same)
       | inr outside ↦ let k = rw outside at h in cc
     ]
 rows_fit_sound path (negsuc n) rows h = cc
@@ -264,7 +264,7 @@ module _ (table : List ℕ) where
       let same : made ≡ def = cc in
       let are = columns_read_sound table (get_member (codes "columns") fields) columns read in
       let some : 1 ≤ rows = rows_sound (field_path table (codes "rows")) (get_member (codes "rows") fields) rows stated in
-      subst IsSoundTable same (record { rows = some; some = are.1; few = are.2; names = are.0; keys = keys_sound table columns fields keys keyed })
+      subst IsSoundTable {x = made} same (record { rows = some; some = are.1; few = are.2; names = are.0; keys = keys_sound table columns fields keys keyed })
 
 tables_sound : (tables : Members) (defs : List NamedTable) → tables_read tables ≡ Ok defs → All (λ table. IsSoundTable table.1) defs
 tables_sound no_members defs h =
@@ -295,4 +295,4 @@ document_sound (Some top) catalog h =
     let (tables, read, h3) = bound (top_tables_read (get_member (codes "tables") top)) (λ tables. Ok (record { tables = tables })) catalog h2 in
     let made : Catalog = record { tables = tables } in
     let same : made ≡ catalog = cc in
-    subst (λ (c : Catalog). All (λ table. IsSoundTable table.1) c.tables) same (top_tables_sound (get_member (codes "tables") top) tables read)
+    subst (λ (c : Catalog). All (λ table. IsSoundTable table.1) c.tables) {x = made} same (top_tables_sound (get_member (codes "tables") top) tables read)

@@ -1,5 +1,5 @@
 -- Which catalogues the calls above may be given.
-use Rattle.std.specs.Prelude.{ℕ, ◌<◌, ◌≤◌, List, length, All, nat_eq}
+use Rattle.std.specs.Prelude.{ℕ, ◌<◌, ◌≤◌, length, All, nat_eq}
 use Rattle.std.specs.List.{IsDistinct}
 use Rattle.jp_catalog.specs.Names.{HasDistinctNames}
 use Rattle.jp_catalog.specs.declared.types.Catalog.{Catalog}

@@ -10,7 +10,7 @@ use crate::level::Level;
 use crate::place::{Place, text_of};
 use crate::{CatalogError, Columns};
 use indexmap::IndexMap;
-use jp_base::{Ty, Txt};
+use jp_base::{Txt, Ty};
 use std::alloc::Global;
 use toml::Value;
 

@@ -10,6 +10,8 @@ mod named;
 mod place;
 mod read;
 mod tables;
+#[cfg(test)]
+mod tests;
 mod types;
 
 pub use error::CatalogError;

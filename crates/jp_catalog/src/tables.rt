@@ -33,11 +33,7 @@ pub(crate) fn read_tables(alloc: Global, tables: &Table) -> Result<TableDefs, Ca
 }
 
 /// Puts a table in.
-fn put(
-    defs: &mut IndexMap<Txt, TableDef>,
-    name: Txt,
-    def: TableDef,
-) -> Result<(), CatalogError>
+fn put(defs: &mut IndexMap<Txt, TableDef>, name: Txt, def: TableDef) -> Result<(), CatalogError>
     ensures put { OnOk result (defs.new.entries ≡ insert_entry bytes_eq defs.old.entries name def) }
     ensures memory { IfErr result (λ e. e ≡ CatalogError.Memory) }
 {

@@ -1,5 +1,5 @@
 use crate::Named;
-use jp_base::{Ty, Txt};
+use jp_base::{Txt, Ty};
 use sqlite_items::Items;
 
 /// The tables of a catalogue by their names, ascending.

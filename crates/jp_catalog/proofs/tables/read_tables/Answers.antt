@@ -1,8 +1,6 @@
-use Rattle.std.proofs.Common.{◌≡◌, Ok, List, ℕ, string_bytes, ◌∙◌}
-use Rattle.std.specs.Str.{bytes_eq}
+use Rattle.std.proofs.Common.{◌≡◌, Ok, string_bytes, ◌∙◌}
 use Rattle.toml.specs.View.{view}
 use Rattle.toml.proofs.Views.{Entry}
-use Rattle.indexmap.specs.IndexMap.{insert_entry}
 use Rattle.jp_catalog.specs.Reading.{table_read}
 use Rattle.jp_catalog.proofs.Steps.{agreed, tables_turn}
 use Rattle.jp_catalog.proofs.tables.read_tables.Goals as goal
