@@ -1,0 +1,5 @@
+pub mod Names
+pub mod Sound
+pub mod Levels
+pub mod Paths
+pub mod Reading
