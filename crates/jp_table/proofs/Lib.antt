@@ -1,0 +1,5 @@
+pub mod LoadingFacts
+pub mod NumberFacts
+pub mod RecordFacts
+pub mod RowFacts
+pub mod StorageFacts
