@@ -1,6 +1,11 @@
 //! Cuts the source of a statement into tokens.
 #![tactic(auto)]
 
+mod scan;
+mod token;
+
+pub use token::{LexError, Token, TokenKind};
+
 ghost use Rattle.std.specs.Prelude.{◌≡◌};
 ghost use Rattle.jp_lex.specs.Chars.{is_white, is_letter, is_digit, is_word_byte};
 
