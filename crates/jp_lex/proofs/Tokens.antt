@@ -72,7 +72,7 @@ scan_long : (b next : ℕ) (v : Bytes) → is_long_symbol b next ≡ true → sc
 unfolding scan
 scan_long b next v h = rw (long_no_letter b next h, long_no_digit b next h, long_no_quote b next h, long_no_text b next h, h) refl
 
-some_same : {A : Type 0} {x y : A} → Some x ≡ Some y → x ≡ y
+pub some_same : {A : Type 0} {x y : A} → Some x ≡ Some y → x ≡ y
 some_same h = cc
 
 symbol_some : (b next : ℕ) (s : Scanned) → symbol b next ≡ Some s → 1 ≤ s.len
