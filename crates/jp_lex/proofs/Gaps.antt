@@ -1,11 +1,11 @@
 -- The longest gap at the front of a source is made of the pieces that are found, one after another.
 use Rattle.std.proofs.Common.{◌≡◌, ℕ, zero, suc, ◌+◌, ◌-◌, ◌<◌, ◌≤◌, min, Bool, true, false, not, ◌&&◌, cond, eqb, List, [], ◌∷◌, ◌++◌, length, take, drop, get_or, Option, Some, None, refl, sym, ap, ◌∙◌, subst, arith, append_assoc, length-append}
 use Rattle.std.proofs.lemmas.Bool.{and_parts, eqb-true, not-false}
-use Rattle.std.proofs.lemmas.List.{drop_at, append-nil}
+use Rattle.std.proofs.lemmas.List.{drop_at, drop-drop, take_rest, append-nil}
 use Rattle.std.specs.List.{prefix_len, list_all}
 use Rattle.jp_lex.specs.Chars.{is_white}
 use Rattle.jp_lex.specs.Cutting.{Bytes, is_in_line, is_opening, Inside, Piece, Gap, IsLongestGap}
-use Rattle.jp_lex.specs.Scan.{comment_from, line_len, block_len, piece_len}
+use Rattle.jp_lex.specs.Scan.{comment_from, line_len, block_len, piece_len, LongestAt}
 use Rattle.jp_lex.proofs.Bytes.{prefix_stops, prefix_whole, span, Stops, same_front, comment_exact, comment_finds, pair_is, Commented}
 
 line_at : (v rest : Bytes) → list_all is_in_line v ≡ true → line_len ((45 ∷ 45 ∷ v ++ (10 ∷ [])) ++ rest) ≡ length (45 ∷ 45 ∷ v ++ (10 ∷ []))
@@ -100,10 +100,6 @@ one_piece u g rest piece long = record { gap = Gap.more piece long.gap; longest 
         let same = same_front u (g ++ rest) v (more ++ after) len whole in
         omega (arith, len, long.longest more after same.1 gap, length-append u g, length-append v more)
 
--- the first n bytes are the longest gap
-abbrev pub LongestAt : Bytes → ℕ → Type 0
-LongestAt src n = (g : Bytes) × (rest : Bytes) × (src ≡ g ++ rest) × (length g ≡ n) × IsLongestGap g rest
-
 pub longest_none : (src : Bytes) → piece_len src ≡ 0 → LongestAt src 0
 longest_none src h = ([], src, refl, refl, no_piece src h)
 
@@ -114,3 +110,22 @@ longest_more src n h more =
     let rest : found.1 ≡ more.0 ++ more.1 = sym left ∙ more.2 in
     (found.0 ++ more.0, more.1, found.2 ∙ ap (λ w. found.0 ++ w) rest ∙ sym (append_assoc found.0 more.0 more.1),
      omega (arith, length-append found.0 more.0, found.3, more.3), one_piece found.0 more.0 more.1 (subst (λ w. Piece found.0 w) rest found.4) more.4)
+
+-- ---- the steps of a loop over the pieces, from the place `len` on
+
+abbrev Goes : Bytes → ℕ → Type 0
+Goes src len = (n : ℕ) → LongestAt (drop len src) n → LongestAt src (len + n)
+
+pub gap_ends : (src : Bytes) (len n : ℕ) → Goes src len → n ≡ piece_len (take (length src - len) (drop len src)) → n ≡ 0 → LongestAt src len
+gap_ends src len n goes is none =
+    let at : piece_len (drop len src) ≡ 0 = ap piece_len (sym (take_rest src len)) ∙ sym is ∙ none in
+    let whole : len + 0 ≡ len = omega arith in
+    subst (LongestAt src) whole (goes 0 (longest_none (drop len src) at))
+
+pub gap_goes : (src : Bytes) (len n : ℕ) → Goes src len → n ≡ piece_len (take (length src - len) (drop len src)) → 0 < n → Goes src (len + n)
+gap_goes src len n goes is some m more =
+    let at : piece_len (drop len src) ≡ n = ap piece_len (sym (take_rest src len)) ∙ sym is in
+    let left : drop (len + n) src ≡ drop (piece_len (drop len src)) (drop len src) = sym (drop-drop n len src) ∙ ap (λ k. drop k (drop len src)) (sym at) in
+    let step = longest_more (drop len src) m (omega (arith, at)) (subst (λ w. LongestAt w m) left more) in
+    let place : len + (piece_len (drop len src) + m) ≡ len + n + m = omega (arith, at) in
+    subst (LongestAt src) place (goes (piece_len (drop len src) + m) step)

@@ -2,3 +2,4 @@ mod Bytes
 mod Gaps
 mod Tokens
 mod Once
+mod Values

@@ -8,7 +8,7 @@ use Rattle.jp_lex.specs.declared.token.TokenKind.{TokenKind}
 use Rattle.jp_lex.specs.declared.token.TokenKind.TheVariants.{Word, Quoted, Number, Text, Symbol}
 use Rattle.jp_lex.specs.Chars.{is_letter, is_digit, is_word_byte}
 use Rattle.jp_lex.specs.Cutting.{Bytes, is_symbol, is_long_symbol, begins, Body, Form, Closes, IsToken, NoToken}
-use Rattle.jp_lex.specs.Scan.{quote_from, plain, closed, symbol, scan}
+use Rattle.jp_lex.specs.Scan.{quote_from, plain, closed, symbol, scan, TokenAt}
 use Rattle.jp_lex.proofs.Bytes.{prefix_all, prefix_whole, span, same_front, quote_exact, quote_reaches, quote_finds}
 
 -- ---- classes that share no byte
@@ -234,10 +234,6 @@ form_finds (b ∷ v) s h = go (is_letter b) (is_digit b) (eqb b 34) (eqb b 39) r
     go false false true t letter digit quote text e = subst (λ x. Finds (x ∷ v) s) (sym (eqb-true b 34 quote)) (quoted_finds v s e)
     go false false false true letter digit quote text e = subst (λ x. Finds (x ∷ v) s) (sym (eqb-true b 39 text)) (text_finds v s e)
     go false false false false letter digit quote text e = symbol_finds b v s e
-
--- the first `len` bytes are a token, with `size` bytes of content
-abbrev pub TokenAt : Bytes → Scanned → Type 0
-TokenAt src s = (u : Bytes) × (content : Bytes) × (rest : Bytes) × (src ≡ u ++ rest) × (length u ≡ s.len) × (length content ≡ s.size) × IsToken s.kind u content rest
 
 pub token_finds : (src : Bytes) (s : Scanned) → scan src ≡ Some s → TokenAt src s
 token_finds src s h =

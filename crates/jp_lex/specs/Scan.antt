@@ -1,11 +1,13 @@
 -- The scans that the code makes, as functions on the rest of the source. They are a step of the proof, and no public clause cites them.
-use Rattle.std.specs.Prelude.{ℕ, suc, ◌+◌, ◌-◌, min, Bool, true, false, ◌&&◌, ◌==◌, if◌then◌else◌, [], ◌∷◌, length, drop, slice_index, Option, Some, None}
+use Rattle.std.specs.Prelude.{◌≡◌, ℕ, ◌+◌, ◌-◌, ◌<◌, ◌≤◌, min, Bool, true, false, ◌&&◌, ◌==◌, if◌then◌else◌, List, [], ◌∷◌, ◌++◌, length, drop, slice_index, Option, Some, None, unwrap_or, Result, Ok, Err}
 use Rattle.std.specs.List.{prefix_len}
 use Rattle.jp_lex.specs.declared.scan.Scanned.{Scanned}
 use Rattle.jp_lex.specs.declared.token.TokenKind.{TokenKind}
 use Rattle.jp_lex.specs.declared.token.TokenKind.TheVariants.{Word, Quoted, Number, Text, Symbol}
 use Rattle.jp_lex.specs.Chars.{is_white, is_letter, is_digit, is_word_byte}
-use Rattle.jp_lex.specs.Cutting.{Bytes, is_in_line, is_opening, is_closing, is_symbol, is_long_symbol, begins}
+use Rattle.jp_lex.specs.declared.token.LexError.{LexError}
+use Rattle.jp_lex.specs.declared.token.Token.{Token}
+use Rattle.jp_lex.specs.Cutting.{Bytes, is_in_line, is_opening, is_closing, is_symbol, is_long_symbol, begins, IsLongestGap, IsToken, Lexeme, lexeme, Cut, Refusal}
 
 -- The place after the `*/` of the outermost of d + 1 open comments, for bytes that begin at a place; `is_second` says
 -- that the first byte is the second of a pair.
@@ -23,8 +25,7 @@ line_len src = min (prefix_len is_in_line src + 1) (length src)
 
 -- the length of a comment with its `/*`, or 0 where it isn't closed
 abbrev pub block_len : Option ℕ → ℕ
-block_len None = 0
-block_len (Some end) = end
+block_len end = unwrap_or end 0
 
 -- the length of the piece of a gap at the front, or 0
 unfoldable pub piece_len : Bytes → ℕ
@@ -48,6 +49,7 @@ quote_from q false at size (b ∷ v) =
 abbrev pub plain : TokenKind → ℕ → Scanned
 plain kind len = record { kind = kind; len = len; size = len }
 
+-- with the closing quote
 abbrev pub closed : TokenKind → Option (ℕ × ℕ) → Option Scanned
 closed kind None = None
 closed kind (Some end) = Some (record { kind = kind; len = end.0 + 1; size = end.1 })
@@ -64,3 +66,26 @@ scan src =
     else (if b == 34 then closed Quoted (quote_from 34 false 1 0 (drop 1 src))
     else (if b == 39 then closed Text (quote_from 39 false 1 0 (drop 1 src))
     else symbol b (slice_index src 1))))
+
+-- ---- what the scans mean
+
+-- the first n bytes are the longest gap
+abbrev pub LongestAt : Bytes → ℕ → Type 0
+LongestAt src n = (g : Bytes) × (rest : Bytes) × (src ≡ g ++ rest) × (length g ≡ n) × IsLongestGap g rest
+
+-- the first `len` bytes are a token, with `size` bytes of content
+abbrev pub TokenAt : Bytes → Scanned → Type 0
+TokenAt src s = (u : Bytes) × (content : Bytes) × (rest : Bytes) × (src ≡ u ++ rest) × (length u ≡ s.len) × (length content ≡ s.size) × IsToken s.kind u content rest
+
+-- the token stands before whatever follows it, from the place `at` on
+pub record GoesBefore (src : Bytes) (at : ℕ) (t : Lexeme) : Type 0 where
+  pub moves : at < t.at + length t.text
+  pub within : t.at + length t.text ≤ length src
+  pub tokens : (ts : List Lexeme) → Cut (t.at + length t.text) (drop (t.at + length t.text) src) ts → Cut at (drop at src) (t ∷ ts)
+  pub refusal : (e : LexError) → Refusal (t.at + length t.text) (drop (t.at + length t.text) src) e → Refusal at (drop at src) e
+
+-- the next token, none at the end, or why there is none
+abbrev pub IsNext : Bytes → ℕ → Result (Option Token) LexError → Type 0
+IsNext src at (Ok None) = Cut at (drop at src) []
+IsNext src at (Ok (Some t)) = GoesBefore src at (lexeme t)
+IsNext src at (Err e) = Refusal at (drop at src) e

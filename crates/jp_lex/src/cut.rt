@@ -1,0 +1,70 @@
+//! Cuts a source into gaps and tokens, in turn.
+
+ghost use Rattle.std.specs.Prelude.{◌≡◌, ◌⊎◌, ◌+◌, ◌^◌, ◌<◌, ◌≤◌, length, slice_index, nat_lt, MatchResult};
+ghost use Rattle.jp_lex.specs.Chars.{is_letter};
+ghost use Rattle.jp_lex.specs.Cutting as spec;
+ghost use Rattle.jp_lex.specs.Scan.{IsNext};
+
+use std::alloc::Global;
+
+use crate::chars::is_letter;
+use crate::scan::{gap_len, scan};
+use crate::token::{LexError, Token, TokenKind};
+
+/// The most bytes of a name.
+const LONGEST_NAME: usize = 63;
+
+/// The greatest number, 2^127-1.
+const WIDEST: u128 = 0x7fff_ffff_ffff_ffff_ffff_ffff_ffff_ffff;
+
+/// The value of the digits is at most `WIDEST`.
+fn fits(digits: &[u8]) -> bool
+    ensures { result ≡ nat_lt (spec.value digits.now) (2 ^ 127) }
+{
+    let mut value: u128 = 0;
+    for b in digits {
+        let digit = u128::from(b.saturating_sub(b'0'));
+        if value > (WIDEST - digit) / 10 {
+            return false;
+        }
+        value = 10 * value + digit;
+    }
+    true
+}
+
+/// The first byte is a letter or `_`.
+fn begins_word(rest: &[u8]) -> bool
+    ensures { result ≡ is_letter (slice_index rest.now 0) }
+{
+    match rest {
+        [b, ..] => is_letter(*b),
+        [] => false,
+    }
+}
+
+/// What is wrong with a token at a place, if anything; `size` counts the bytes of its content.
+fn fault(at: u32, kind: TokenKind, text: &[u8], size: usize, rest: &[u8]) -> Option<LexError>
+    requires { at + length text.now < 2 ^ 32 }
+    ensures { result ≡ spec.fault at kind text.now size rest.now }
+{
+    match kind {
+        TokenKind::Word if size > LONGEST_NAME => Some(LexError::NameTooLong(at)),
+        TokenKind::Quoted if size == 0 => Some(LexError::BadByte(at)),
+        TokenKind::Quoted if size > LONGEST_NAME => Some(LexError::NameTooLong(at)),
+        TokenKind::Number if begins_word(rest) => Some(LexError::BadByte(at + text.len() as u32)),
+        TokenKind::Number if !fits(text) => Some(LexError::NumberTooWide(at)),
+        _ => None,
+    }
+}
+
+/// The refusal at a place where no token begins.
+fn unmatched(at: u32, b: u8, rest: &[u8]) -> LexError
+    ensures { result ≡ spec.unmatched at b rest.now }
+{
+    match (b, rest) {
+        (b'"', _) => LexError::OpenIdent(at),
+        (b'\'', _) => LexError::OpenString(at),
+        (b'/', [b'*', ..]) => LexError::OpenComment(at),
+        _ => LexError::BadByte(at),
+    }
+}
