@@ -1,5 +1,6 @@
 mod Bytes
 mod Gaps
 mod Tokens
+mod Next
 mod Once
 mod Values

@@ -9,7 +9,7 @@ use Rattle.jp_lex.specs.Scan.{scan}
 use Rattle.jp_lex.proofs.Bytes.{same_front}
 use Rattle.jp_lex.proofs.Tokens.{form_whole, some_same, scanned}
 
-Form-some : {kind : TokenKind} {u content : Bytes} → Form kind u content → 0 < length u
+pub Form-some : {kind : TokenKind} {u content : Bytes} → Form kind u content → 0 < length u
 Form-some (Form.word b v is letter all) = omega (arith, ap length is)
 Form-some (Form.quoted v is inner) = omega (arith, ap length is)
 Form-some (Form.number b v is digit all) = omega (arith, ap length is)
