@@ -1,6 +1,7 @@
 mod Bytes
 mod Gaps
 mod Tokens
+mod Edges
 mod Next
 mod Once
 mod Values

@@ -2,13 +2,13 @@
 use Rattle.std.proofs.Common.{◌≡◌, ℕ, zero, suc, ◌+◌, ◌-◌, ◌<◌, ◌≤◌, Bool, true, List, [], ◌∷◌, ◌++◌, length, take, drop, get_or, Option, Some, None, refl, sym, ap, ◌∙◌, subst, arith, append_assoc, length-append, length-drop}
 use Rattle.std.proofs.lemmas.Bool.{and_parts}
 use Rattle.std.proofs.lemmas.Bool.Decides.{nat_tests}
-use Rattle.std.proofs.lemmas.List.{take_at, drop_at, drop-drop, append-nil, get_or-append-add, get_or_append_left}
+use Rattle.std.proofs.lemmas.List.{take_at, drop_at, drop-drop, take_rest, append-nil, get_or-append-add, get_or_append_left}
 use Rattle.std.specs.List.{list_all}
 use Rattle.jp_lex.specs.declared.scan.Scanned.{Scanned}
 use Rattle.jp_lex.specs.declared.token.TokenKind.{TokenKind}
 use Rattle.jp_lex.specs.declared.token.LexError.{LexError}
 use Rattle.jp_lex.specs.Cutting.{Bytes, IsLongestGap, Form, IsToken, NoToken, fault, unmatched, Lexeme, Cut, Refusal}
-use Rattle.jp_lex.specs.Scan.{scan, LongestAt, TokenAt, GoesBefore}
+use Rattle.jp_lex.specs.Scan.{scan, LongestAt, TokenAt, GoesBefore, IsEndOr}
 use Rattle.jp_lex.proofs.Bytes.{same_front}
 use Rattle.jp_lex.proofs.Tokens.{no_token}
 use Rattle.jp_lex.proofs.Once.{Form-some}
@@ -76,3 +76,22 @@ next_end src at gap found is =
     let same = sym (behind_gap src at gap found) ∙ is in
     let whole : drop at src ≡ found.0 = found.2 ∙ ap (λ w. found.0 ++ w) same ∙ append-nil found.0 in
     subst (λ w. Cut at w []) (sym whole) (Cut.done (subst (IsLongestGap found.0) same found.4))
+
+-- ---- what the code's slices are
+
+pub gap_of : (text bytes : Bytes) (at gap : ℕ) → bytes ≡ text → LongestAt (take (length bytes - at) (drop at bytes)) gap → LongestAt (drop at text) gap
+gap_of text bytes at gap same found = subst (λ w. LongestAt (drop at w) gap) same (subst (λ w. LongestAt w gap) (take_rest bytes at) found)
+
+pub scan_of : (text bytes : Bytes) (start : ℕ) (found : Option Scanned) → bytes ≡ text → found ≡ scan (take (length bytes - start) (drop start bytes)) → scan (drop start text) ≡ found
+scan_of text bytes start found same is = ap (λ w. scan (drop start w)) (sym same) ∙ ap scan (sym (take_rest bytes start)) ∙ sym is
+
+pub rest_of : (text bytes : Bytes) (start : ℕ) → bytes ≡ text → take (length bytes - start) (drop start bytes) ≡ drop start text
+rest_of text bytes start same = take_rest bytes start ∙ ap (drop start) same
+
+pub start_fits : (text bytes : Bytes) (at gap : ℕ) → bytes ≡ text → at ≤ length text → gap ≤ length (take (length bytes - at) (drop at bytes)) → at + gap ≤ length text
+start_fits text bytes at gap same fits within = omega (arith, ap length (rest_of text bytes at same), length-drop at text)
+
+-- the refusal where nothing is found, or the end
+pub next_refusal : (src rest : Bytes) (at gap : ℕ) (e : LexError) → LongestAt (drop at src) gap → scan (drop (at + gap) src) ≡ None → rest ≡ drop (at + gap) src → IsEndOr (at + gap) rest (Some e) → Refusal at (drop at src) e
+next_refusal src [] at gap e found none is h = absurd h
+next_refusal src (b ∷ rest) at gap e found none is h = subst (Refusal at (drop at src)) (sym h) (next_none src at gap b rest found (sym is) none)

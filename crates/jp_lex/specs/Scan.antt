@@ -1,5 +1,5 @@
 -- The scans that the code makes, as functions on the rest of the source. They are a step of the proof, and no public clause cites them.
-use Rattle.std.specs.Prelude.{◌≡◌, ℕ, ◌+◌, ◌-◌, ◌<◌, ◌≤◌, min, Bool, true, false, ◌&&◌, ◌==◌, if◌then◌else◌, List, [], ◌∷◌, ◌++◌, length, drop, slice_index, Option, Some, None, unwrap_or, Result, Ok, Err}
+use Rattle.std.specs.Prelude.{◌≡◌, ℕ, ◌+◌, ◌-◌, ◌<◌, ◌≤◌, min, Bool, true, false, ◌&&◌, ◌==◌, if◌then◌else◌, List, [], ◌∷◌, ◌++◌, length, take, drop, slice_index, Option, Some, None, unwrap_or, Result, Ok, Err}
 use Rattle.std.specs.List.{prefix_len}
 use Rattle.jp_lex.specs.declared.scan.Scanned.{Scanned}
 use Rattle.jp_lex.specs.declared.token.TokenKind.{TokenKind}
@@ -7,7 +7,7 @@ use Rattle.jp_lex.specs.declared.token.TokenKind.TheVariants.{Word, Quoted, Numb
 use Rattle.jp_lex.specs.Chars.{is_white, is_letter, is_digit, is_word_byte}
 use Rattle.jp_lex.specs.declared.token.LexError.{LexError}
 use Rattle.jp_lex.specs.declared.token.Token.{Token}
-use Rattle.jp_lex.specs.Cutting.{Bytes, is_in_line, is_opening, is_closing, is_symbol, is_long_symbol, begins, IsLongestGap, IsToken, Lexeme, lexeme, Cut, Refusal}
+use Rattle.jp_lex.specs.Cutting.{Bytes, is_in_line, is_opening, is_closing, is_symbol, is_long_symbol, begins, IsLongestGap, IsToken, fault, unmatched, Lexeme, lexeme, Cut, Refusal}
 
 -- The place after the `*/` of the outermost of d + 1 open comments, for bytes that begin at a place; `is_second` says
 -- that the first byte is the second of a pair.
@@ -89,3 +89,14 @@ abbrev pub IsNext : Bytes → ℕ → Result (Option Token) LexError → Type 0
 IsNext src at (Ok None) = Cut at (drop at src) []
 IsNext src at (Ok (Some t)) = GoesBefore src at (lexeme t)
 IsNext src at (Err e) = Refusal at (drop at src) e
+
+-- the token that was found at a place, or what is wrong with it
+abbrev pub IsTokenOr : Bytes → ℕ → Scanned → Result Token LexError → Type 0
+IsTokenOr src start s (Ok t) = (lexeme t ≡ record { kind = s.kind; text = take s.len (drop start src); at = start }) × (fault start s.kind (take s.len (drop start src)) s.size (drop (start + s.len) src) ≡ None)
+IsTokenOr src start s (Err e) = fault start s.kind (take s.len (drop start src)) s.size (drop (start + s.len) src) ≡ Some e
+
+-- the end, or the refusal where no token begins
+abbrev pub IsEndOr : ℕ → Bytes → Option LexError → Type 0
+IsEndOr at [] (Some e) = ⊥
+IsEndOr at (b ∷ rest) (Some e) = e ≡ unmatched at b rest
+IsEndOr at rest None = rest ≡ []

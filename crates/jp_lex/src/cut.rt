@@ -1,14 +1,14 @@
 //! Cuts a source into gaps and tokens, in turn.
 
-ghost use Rattle.std.specs.Prelude.{◌≡◌, ◌⊎◌, ◌+◌, ◌^◌, ◌<◌, ◌≤◌, length, slice_index, nat_lt, MatchResult};
+ghost use Rattle.std.specs.Prelude.{◌≡◌, ◌⊎◌, ◌+◌, ◌^◌, ◌<◌, ◌≤◌, length, drop, slice_index, nat_lt, MatchResult};
 ghost use Rattle.jp_lex.specs.Chars.{is_letter};
 ghost use Rattle.jp_lex.specs.Cutting as spec;
-ghost use Rattle.jp_lex.specs.Scan.{IsNext};
+ghost use Rattle.jp_lex.specs.Scan.{TokenAt, IsTokenOr, IsEndOr, IsNext};
 
 use std::alloc::Global;
 
 use crate::chars::is_letter;
-use crate::scan::{gap_len, scan};
+use crate::scan::{Scanned, gap_len, scan};
 use crate::token::{LexError, Token, TokenKind};
 
 /// The most bytes of a name.
@@ -66,5 +66,55 @@ fn unmatched(at: u32, b: u8, rest: &[u8]) -> LexError
         (b'\'', _) => LexError::OpenString(at),
         (b'/', [b'*', ..]) => LexError::OpenComment(at),
         _ => LexError::BadByte(at),
+    }
+}
+
+/// The token that was found at a place, or what is wrong with it.
+fn token_at(text: &str, start: usize, found: Scanned) -> Result<Token<'_>, LexError>
+    requires place { start ≤ length text.now }
+    requires short { length text.now ≤ 65536 }
+    requires room { start + found.len ≤ length text.now }
+    requires token { TokenAt (drop start text.now) found }
+    ensures { IsTokenOr text.now start found result }
+{
+    let end = start + found.len;
+    let src = text.as_bytes();
+    match fault(start as u32, found.kind, &src[start..end], found.size, &src[end..]) {
+        Some(error) => Err(error),
+        None => Ok(Token {
+            kind: found.kind,
+            text: &text[start..end],
+            at: start as u32,
+        }),
+    }
+}
+
+/// The end of the source, or the refusal at a place where no token begins.
+fn end_or_refusal(at: u32, rest: &[u8]) -> Option<LexError>
+    ensures { IsEndOr at rest.now result }
+{
+    match rest {
+        [b, tail @ ..] => Some(unmatched(at, *b, tail)),
+        [] => None,
+    }
+}
+
+/// The token behind the gap at a place, or none at the end.
+fn next_token(text: &str, at: usize) -> Result<Option<Token<'_>>, LexError>
+    requires place { at ≤ length text.now }
+    requires short { length text.now ≤ 65536 }
+    ensures { IsNext text.now at result }
+{
+    let src = text.as_bytes();
+    let start = at + gap_len(&src[at..]);
+    match scan(&src[start..]) {
+        Some(found) => {
+            let token = token_at(text, start, found)?;
+            Ok(Some(token))
+        }
+        None => match end_or_refusal(start as u32, &src[start..]) {
+            Some(error) => Err(error),
+            None => Ok(None),
+        },
     }
 }
