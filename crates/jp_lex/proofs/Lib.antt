@@ -1,5 +1,6 @@
 mod Bytes
 mod Gaps
+mod Places
 mod Tokens
 mod Edges
 mod Next

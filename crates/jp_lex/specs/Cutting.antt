@@ -1,6 +1,6 @@
 -- How the source of a statement is cut into gaps and tokens: by the shape of its bytes, and without a scan.
 use Rattle.std.specs.Prelude.{◌≡◌, ◌⊎◌, ℕ, zero, suc, ◌+◌, ◌-◌, ◌*◌, ◌^◌, ◌≤◌, Bool, true, false, not, ◌&&◌, ◌||◌, ◌==◌, nat_le, nat_lt, if◌then◌else◌, List, [], ◌∷◌, ◌++◌, length, map, fold, slice_index, Option, Some, None, Result, Ok, Err}
-use Rattle.std.specs.List.{list_all, AllAdjacentBelow}
+use Rattle.std.specs.List.{list_all, slice_range, All, AllPairs}
 use Rattle.std.specs.Str.{IsUtf8, IsValidUpTo}
 use Rattle.jp_lex.specs.declared.token.TokenKind.{TokenKind}
 use Rattle.jp_lex.specs.declared.token.TokenKind.TheVariants.{Word, Quoted, Number, Text, Symbol}
@@ -145,6 +145,20 @@ pub data Refusal : ℕ → Bytes → LexError → Type 0 where
     → fault (p + length g) kind u (length content) rest ≡ Some e → Refusal p src e
   later : {p : ℕ} {src : Bytes} {e : LexError} (g : Bytes) (kind : TokenKind) (u content rest : Bytes) → src ≡ g ++ (u ++ rest) → IsLongestGap g (u ++ rest) → IsToken kind u content rest
     → fault (p + length g) kind u (length content) rest ≡ None → Refusal (p + length g + length u) rest e → Refusal p src e
+
+-- the lexeme is the slice of the source at its place
+abbrev pub IsSliceOf : Bytes → Lexeme → Type 0
+IsSliceOf src t = slice_range src t.at (t.at + length t.text) ≡ t.text
+
+abbrev pub AreSlices : Bytes → List Lexeme → Type 0
+AreSlices src ts = All (IsSliceOf src) ts
+
+-- the first lexeme ends where the second begins, or before
+abbrev pub StandsBefore : Lexeme → Lexeme → Type 0
+StandsBefore s t = s.at + length s.text ≤ t.at
+
+abbrev pub Ascend : List Lexeme → Type 0
+Ascend ts = AllPairs StandsBefore ts
 
 -- the tokens of a source
 abbrev pub Tokens : Bytes → List Lexeme → Type 0

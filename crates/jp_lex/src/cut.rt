@@ -118,3 +118,22 @@ fn next_token(text: &str, at: usize) -> Result<Option<Token<'_>>, LexError>
         },
     }
 }
+
+/// The tokens of a text.
+fn cut(alloc: Global, text: &str) -> Result<Vec<Token<'_>>, LexError>
+    requires { length text.now ≤ 65536 }
+    ensures { MatchResult result
+        (λ v. spec.Cut 0 text.now (spec.lexemes v.items))
+        (λ e. (e ≡ LexError.Memory) ⊎ spec.Refusal 0 text.now e) }
+{
+    let mut found = Vec::new(alloc);
+    let mut at = 0;
+    'tokens: while let Some(token) = next_token(text, at)? {
+        at = token.at as usize + token.text.len();
+        match found.push(token) {
+            Ok(()) => {}
+            Err(_) => return Err(LexError::Memory),
+        }
+    }
+    Ok(found)
+}
