@@ -1,7 +1,7 @@
 -- Facts on lists of bytes, quotes and comments: what the scans find.
-use Rattle.std.proofs.Common.{◌≡◌, ℕ, zero, suc, ◌+◌, ◌-◌, ◌<◌, ◌≤◌, Bool, true, false, not, ◌&&◌, ◌||◌, cond, eqb, List, [], ◌∷◌, ◌++◌, length, take, drop, get_or, Option, Some, None, refl, sym, ap, ◌∙◌, subst, ◌⊎◌, inl, inr, ⊎_elim, arith, rules, one-add, add-one}
-use Rattle.std.proofs.lemmas.Bool.{and_parts, eq-eqb, eqb-true, ne_eqb, eqb-false, cases_Bool, false≢true}
-use Rattle.std.proofs.lemmas.List.{take_at, drop_at, append_assoc, length-append}
+use Rattle.std.proofs.Common.{◌≡◌, ℕ, zero, suc, ◌+◌, ◌-◌, ◌<◌, ◌≤◌, Bool, true, false, ◌&&◌, cond, eqb, [], ◌∷◌, ◌++◌, length, take, drop, get_or, Some, refl, sym, ap, ◌∙◌, subst, arith, add-one}
+use Rattle.std.proofs.lemmas.Bool.{and_parts, eq-eqb, eqb-true, ne_eqb, false≢true}
+use Rattle.std.proofs.lemmas.List.{take_at, drop_at}
 use Rattle.std.specs.List.{prefix_len, list_all}
 use Rattle.jp_lex.specs.Cutting.{Bytes, Inside, Body, begins, is_opening, is_closing}
 use Rattle.jp_lex.specs.Scan.{comment_from, quote_from}
@@ -48,9 +48,10 @@ span p (b ∷ v) = go (span p v) (p b) refl
 
 -- two fronts of one length are one front
 pub same_front : (g x h y : Bytes) → length g ≡ length h → g ++ x ≡ h ++ y → (g ≡ h) × (x ≡ y)
-same_front g x h y l e =
-    (sym (take_at g x (length g) refl) ∙ ap (take (length g)) e ∙ take_at h y (length g) (sym l),
-     sym (drop_at g x (length g) refl) ∙ ap (drop (length g)) e ∙ drop_at h y (length g) (sym l))
+same_front g x h y l e = (
+  sym (take_at g x (length g) refl) ∙ ap (take (length g)) e ∙ take_at h y (length g) (sym l),
+  sym (drop_at g x (length g) refl) ∙ ap (drop (length g)) e ∙ drop_at h y (length g) (sym l),
+)
 
 -- ---- quotes
 
@@ -61,7 +62,7 @@ quote_grows q false at size (b ∷ v) end e =
     go (eqb b q) (begins q v) (quote_grows q true (at + 2) (size + 1) v end) (quote_grows q false (at + 1) (size + 1) v end) e
   where
     go : (t s : Bool) → (quote_from q true (at + 2) (size + 1) v ≡ Some end → at + 2 ≤ end.0) → (quote_from q false (at + 1) (size + 1) v ≡ Some end → at + 1 ≤ end.0)
-      → cond t (cond s (quote_from q true (at + 2) (size + 1) v) (Some (at, size))) (quote_from q false (at + 1) (size + 1) v) ≡ Some end → at ≤ end.0
+        → cond t (cond s (quote_from q true (at + 2) (size + 1) v) (Some (at, size))) (quote_from q false (at + 1) (size + 1) v) ≡ Some end → at ≤ end.0
     go true true two one h = omega (arith, two h)
     go true false two one h = let same : ◌≡◌ {A = ℕ × ℕ} (at, size) end = cc in omega (arith, ap (λ (p : ℕ × ℕ). p.0) same)
     go false s two one h = omega (arith, one h)
@@ -107,7 +108,7 @@ quote_finds q false at size (b ∷ v) end e =
     go (eqb b q) (begins q v) refl refl (quote_finds q true (at + 2) (size + 1) v end) (quote_finds q false (at + 1) (size + 1) v end) e
   where
     go : (t s : Bool) → eqb b q ≡ t → begins q v ≡ s → (quote_from q true (at + 2) (size + 1) v ≡ Some end → Enclosed q (drop 1 v) (at + 2) (size + 1) end) → (quote_from q false (at + 1) (size + 1) v ≡ Some end → Enclosed q v (at + 1) (size + 1) end)
-      → cond t (cond s (quote_from q true (at + 2) (size + 1) v) (Some (at, size))) (quote_from q false (at + 1) (size + 1) v) ≡ Some end → Enclosed q (b ∷ v) at size end
+        → cond t (cond s (quote_from q true (at + 2) (size + 1) v) (Some (at, size))) (quote_from q false (at + 1) (size + 1) v) ≡ Some end → Enclosed q (b ∷ v) at size end
     go true true first next two one h =
         let found = two h in
         let is = eqb-true b q first in
@@ -165,12 +166,16 @@ other_found b d at end v opens closes found =
     let first = Inside-first found.3 in
     let whole : v ≡ (first.0 ∷ first.1) ++ found.1 = found.2 ∙ ap (λ w. w ++ found.1) first.2 in
     let next : get_or v 0 0 ≡ first.0 = ap (λ w. get_or w 0 0) whole in
-    let len : length found.0 ≡ suc (length first.1) = ap length first.2 in
-    (b ∷ first.0 ∷ first.1, found.1, ap (λ w. b ∷ w) whole,
-     Inside.other b first.0 (rw next at opens) (rw next at closes) (subst (λ w. Inside (suc d) w) first.2 found.3), omega (arith, found.4, len))
+    let len : length found.0 ≡ suc (length first.1) = ap length first.2 in (
+      b ∷ first.0 ∷ first.1,
+      found.1,
+      ap (λ w. b ∷ w) whole,
+      Inside.other b first.0 (rw next at opens) (rw next at closes) (subst (λ w. Inside (suc d) w) first.2 found.3),
+      omega (arith, found.4, len),
+    )
 
 closed_found : (d b at end : ℕ) (v : Bytes) → is_closing b (get_or v 0 0) ≡ true → (comment_from true (d - 1) (at + 2) v ≡ Some end → Commented (d - 1) (drop 1 v) (at + 2) end)
-  → cond (eqb d 0) (Some (at + 2)) (comment_from true (d - 1) (at + 2) v) ≡ Some end → Commented d (b ∷ v) at end
+    → cond (eqb d 0) (Some (at + 2)) (comment_from true (d - 1) (at + 2) v) ≡ Some end → Commented d (b ∷ v) at end
 closed_found zero b at end v closes two h =
     let is = pair_is 42 47 b v (omega arith) closes in
     let same : at + 2 ≡ end = cc in
@@ -189,8 +194,8 @@ comment_finds false d at (b ∷ v) end e =
     go (is_opening b (get_or v 0 0)) (is_closing b (get_or v 0 0)) refl refl (comment_finds true (d + 1) (at + 2) v end) (comment_finds true (d - 1) (at + 2) v end) (comment_finds false d (at + 1) v end) e
   where
     go : (o c : Bool) → is_opening b (get_or v 0 0) ≡ o → is_closing b (get_or v 0 0) ≡ c → (comment_from true (d + 1) (at + 2) v ≡ Some end → Commented (d + 1) (drop 1 v) (at + 2) end)
-      → (comment_from true (d - 1) (at + 2) v ≡ Some end → Commented (d - 1) (drop 1 v) (at + 2) end) → (comment_from false d (at + 1) v ≡ Some end → Commented d v (at + 1) end)
-      → cond o (comment_from true (d + 1) (at + 2) v) (cond c (cond (eqb d 0) (Some (at + 2)) (comment_from true (d - 1) (at + 2) v)) (comment_from false d (at + 1) v)) ≡ Some end → Commented d (b ∷ v) at end
+        → (comment_from true (d - 1) (at + 2) v ≡ Some end → Commented (d - 1) (drop 1 v) (at + 2) end) → (comment_from false d (at + 1) v ≡ Some end → Commented d v (at + 1) end)
+        → cond o (comment_from true (d + 1) (at + 2) v) (cond c (cond (eqb d 0) (Some (at + 2)) (comment_from true (d - 1) (at + 2) v)) (comment_from false d (at + 1) v)) ≡ Some end → Commented d (b ∷ v) at end
     go true c opens closes up down one h =
         let is = pair_is 47 42 b v (omega arith) opens in
         let found : Commented (suc d) (drop 1 v) (at + 2) end = rw add-one at (up h) in

@@ -1,5 +1,5 @@
 -- A token begins and ends with an ASCII byte, so a text may be cut there.
-use Rattle.std.proofs.Common.{◌≡◌, ℕ, zero, suc, ◌+◌, ◌-◌, ◌<◌, ◌≤◌, Bool, true, List, [], ◌∷◌, ◌++◌, length, drop, get_or, refl, sym, ap, ◌∙◌, subst, arith, length-append, length-drop}
+use Rattle.std.proofs.Common.{◌≡◌, ℕ, suc, ◌+◌, ◌-◌, ◌<◌, ◌≤◌, Bool, true, [], ◌∷◌, ◌++◌, length, drop, get_or, refl, sym, ap, ◌∙◌, subst, arith, length-append, length-drop}
 use Rattle.std.proofs.lemmas.Bool.{and_parts}
 use Rattle.std.proofs.lemmas.Bool.Decides.{nat_tests}
 use Rattle.std.proofs.lemmas.List.{get_or_at, get_or_append_left, get_or-drop}
@@ -42,10 +42,13 @@ last_ascii p low b (c ∷ v) first all n e =
     rw e (last_ascii p low c v (low c both.0) both.1 (length v) refl)
 
 quotes_end : (q : ℕ) (v : Bytes) → q < 128 → Ends (q ∷ v ++ (q ∷ []))
-quotes_end q v low = (low, λ n e.
-    let len = length-append v (q ∷ []) in
-    let at : length (q ∷ v) ≡ n = omega (arith, len, e) in
-    rw (get_or_at (q ∷ v) q [] 0 n at) low)
+quotes_end q v low = (
+  low,
+  λ n e.
+      let len = length-append v (q ∷ []) in
+      let at : length (q ∷ v) ≡ n = omega (arith, len, e) in
+      rw (get_or_at (q ∷ v) q [] 0 n at) low,
+)
 
 pub form_ends : {kind : TokenKind} {u content : Bytes} → Form kind u content → Ends u
 form_ends (Form.word b v is letter all) = subst Ends (sym is) (letter_ascii b letter, λ n e. last_ascii is_word_byte word_ascii b v (letter_ascii b letter) all n (omega (arith, e)))
@@ -67,6 +70,9 @@ edges text start s utf8 fits (u, content, rest, is, len, size, tok) =
     let inside : (n : ℕ) → n < length u → get_or text (start + n) 0 ≡ get_or u n 0 = λ n lt. sym (get_or-drop start text n 0) ∙ ap (λ w. get_or w n 0) is ∙ get_or_append_left u rest 0 n lt in
     let first : get_or text start 0 < 128 = let e : start + 0 ≡ start = omega arith in rw (← ap (λ n. get_or text n 0) e, inside 0 some) ends.0 in
     let last : get_or text (start + (s.len - 1)) 0 < 128 = rw (inside (s.len - 1) (omega (arith, len, some))) (ends.1 (s.len - 1) (omega (arith, len, some))) in
-    let stop : start + (s.len - 1) + 1 ≡ start + s.len = omega (arith, len, some) in
-    (omega (arith, len, some), room, IsCharBoundary-before_ascii text start (omega (arith, room, len, some)) first,
-     subst (IsCharBoundary text) stop (IsCharBoundary-after_ascii text (start + (s.len - 1)) utf8 (omega (arith, room, len, some)) last))
+    let stop : start + (s.len - 1) + 1 ≡ start + s.len = omega (arith, len, some) in (
+      omega (arith, len, some),
+      room,
+      IsCharBoundary-before_ascii text start (omega (arith, room, len, some)) first,
+      subst (IsCharBoundary text) stop (IsCharBoundary-after_ascii text (start + (s.len - 1)) utf8 (omega (arith, room, len, some)) last),
+    )

@@ -1,12 +1,12 @@
 -- The longest gap at the front of a source is made of the pieces that are found, one after another.
-use Rattle.std.proofs.Common.{◌≡◌, ℕ, zero, suc, ◌+◌, ◌-◌, ◌<◌, ◌≤◌, min, Bool, true, false, not, ◌&&◌, cond, eqb, List, [], ◌∷◌, ◌++◌, length, take, drop, get_or, Option, Some, None, refl, sym, ap, ◌∙◌, subst, arith, append_assoc, length-append}
-use Rattle.std.proofs.lemmas.Bool.{and_parts, eqb-true, not-false}
+use Rattle.std.proofs.Common.{◌≡◌, ℕ, ◌+◌, ◌-◌, ◌<◌, ◌≤◌, Bool, true, false, ◌&&◌, cond, eqb, [], ◌∷◌, ◌++◌, length, take, drop, get_or, Option, Some, None, refl, sym, ap, ◌∙◌, subst, arith, append_assoc, length-append}
+use Rattle.std.proofs.lemmas.Bool.{eqb-true, not-false}
 use Rattle.std.proofs.lemmas.List.{drop_at, drop-drop, take_rest, append-nil}
 use Rattle.std.specs.List.{prefix_len, list_all}
 use Rattle.jp_lex.specs.Chars.{is_white}
-use Rattle.jp_lex.specs.Cutting.{Bytes, is_in_line, is_opening, Inside, Piece, Gap, IsLongestGap}
+use Rattle.jp_lex.specs.Cutting.{Bytes, is_in_line, is_opening, Piece, Gap, IsLongestGap}
 use Rattle.jp_lex.specs.Scan.{comment_from, line_len, block_len, piece_len, LongestAt}
-use Rattle.jp_lex.proofs.Bytes.{prefix_stops, prefix_whole, span, Stops, same_front, comment_exact, comment_finds, pair_is, Commented}
+use Rattle.jp_lex.proofs.Bytes.{prefix_stops, prefix_whole, span, Stops, same_front, comment_exact, comment_finds, pair_is}
 
 line_at : (v rest : Bytes) → list_all is_in_line v ≡ true → line_len ((45 ∷ 45 ∷ v ++ (10 ∷ [])) ++ rest) ≡ length (45 ∷ 45 ∷ v ++ (10 ∷ []))
 line_at v rest h =
@@ -64,8 +64,8 @@ piece_finds [] h = absurd (omega arith)
 piece_finds (b ∷ v) h = go (is_white b) (eqb b 45 && eqb (get_or v 0 0) 45) (is_opening b (get_or v 0 0)) refl refl refl h
   where
     go : (w l o : Bool) → is_white b ≡ w → (eqb b 45 && eqb (get_or v 0 0) 45) ≡ l → is_opening b (get_or v 0 0) ≡ o
-      → 0 < cond w 1 (cond l (line_len (b ∷ v)) (cond o (block_len (comment_from false 0 2 (drop 1 v))) 0))
-      → Found (b ∷ v) (cond w 1 (cond l (line_len (b ∷ v)) (cond o (block_len (comment_from false 0 2 (drop 1 v))) 0)))
+        → 0 < cond w 1 (cond l (line_len (b ∷ v)) (cond o (block_len (comment_from false 0 2 (drop 1 v))) 0))
+        → Found (b ∷ v) (cond w 1 (cond l (line_len (b ∷ v)) (cond o (block_len (comment_from false 0 2 (drop 1 v))) 0)))
     go true l o white line opens h = (b ∷ [], v, refl, refl, Piece.white b white)
     go false true o white line opens h =
         let is = pair_is 45 45 b v (omega arith) line in
@@ -107,9 +107,13 @@ pub longest_more : (src : Bytes) (n : ℕ) → 0 < piece_len src → LongestAt (
 longest_more src n h more =
     let found = piece_finds src h in
     let left : drop (piece_len src) src ≡ found.1 = ap (drop (piece_len src)) found.2 ∙ drop_at found.0 found.1 (piece_len src) found.3 in
-    let rest : found.1 ≡ more.0 ++ more.1 = sym left ∙ more.2 in
-    (found.0 ++ more.0, more.1, found.2 ∙ ap (λ w. found.0 ++ w) rest ∙ sym (append_assoc found.0 more.0 more.1),
-     omega (arith, length-append found.0 more.0, found.3, more.3), one_piece found.0 more.0 more.1 (subst (λ w. Piece found.0 w) rest found.4) more.4)
+    let rest : found.1 ≡ more.0 ++ more.1 = sym left ∙ more.2 in (
+      found.0 ++ more.0,
+      more.1,
+      found.2 ∙ ap (λ w. found.0 ++ w) rest ∙ sym (append_assoc found.0 more.0 more.1),
+      omega (arith, length-append found.0 more.0, found.3, more.3),
+      one_piece found.0 more.0 more.1 (subst (λ w. Piece found.0 w) rest found.4) more.4,
+    )
 
 -- ---- the steps of a loop over the pieces, from the place `len` on
 

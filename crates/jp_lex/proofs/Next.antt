@@ -1,20 +1,16 @@
 -- The next token of a source from a place on, by the longest gap there and what the scan finds behind it.
-use Rattle.std.proofs.Common.{◌≡◌, ℕ, zero, suc, ◌+◌, ◌-◌, ◌<◌, ◌≤◌, Bool, true, List, [], ◌∷◌, ◌++◌, length, take, drop, get_or, Option, Some, None, refl, sym, ap, ◌∙◌, subst, arith, append_assoc, length-append, length-drop}
-use Rattle.std.proofs.lemmas.Bool.{and_parts}
-use Rattle.std.proofs.lemmas.Bool.Decides.{nat_tests}
-use Rattle.std.proofs.lemmas.List.{take_at, drop_at, drop-drop, take_rest, append-nil, get_or-append-add, get_or_append_left}
-use Rattle.std.specs.List.{list_all}
+use Rattle.std.proofs.Common.{◌≡◌, ℕ, ◌+◌, ◌-◌, ◌≤◌, [], ◌∷◌, ◌++◌, length, take, drop, Option, Some, None, sym, ap, ◌∙◌, subst, arith, append_assoc, length-append, length-drop}
+use Rattle.std.proofs.lemmas.List.{take_at, drop_at, drop-drop, take_rest, append-nil}
 use Rattle.jp_lex.specs.declared.scan.Scanned.{Scanned}
 use Rattle.jp_lex.specs.declared.token.TokenKind.{TokenKind}
 use Rattle.jp_lex.specs.declared.token.LexError.{LexError}
-use Rattle.jp_lex.specs.Cutting.{Bytes, IsLongestGap, Form, IsToken, NoToken, fault, unmatched, Lexeme, Cut, Refusal}
+use Rattle.jp_lex.specs.Cutting.{Bytes, IsLongestGap, IsToken, fault, unmatched, Cut, Refusal}
 use Rattle.jp_lex.specs.Scan.{scan, LongestAt, TokenAt, GoesBefore, IsEndOr}
-use Rattle.jp_lex.proofs.Bytes.{same_front}
-use Rattle.jp_lex.proofs.Tokens.{no_token}
+use Rattle.jp_lex.proofs.Found.{no_token}
 use Rattle.jp_lex.proofs.Once.{Form-some}
 
 goes_before : (src : Bytes) (at : ℕ) (g : Bytes) (kind : TokenKind) (u content rest : Bytes) → at ≤ length src → drop at src ≡ g ++ (u ++ rest) → IsLongestGap g (u ++ rest) → IsToken kind u content rest
-  → fault (at + length g) kind u (length content) rest ≡ None → GoesBefore src at (record { kind = kind; text = u; at = at + length g })
+    → fault (at + length g) kind u (length content) rest ≡ None → GoesBefore src at (record { kind = kind; text = u; at = at + length g })
 goes_before src at g kind u content rest fits is gap tok ok =
     let all = ap length is in
     let some = Form-some tok.form in
@@ -22,7 +18,7 @@ goes_before src at g kind u content rest fits is gap tok ok =
     let tail = length-append u rest in
     let both = length-append g u in
     let left : drop (at + length g + length u) src ≡ rest =
-      ap (λ n. drop n src) (let e : at + length g + length u ≡ at + (length g + length u) = omega arith in e) ∙ sym (drop-drop (length g + length u) at src) ∙ ap (drop (length g + length u)) (is ∙ sym (append_assoc g u rest)) ∙ drop_at (g ++ u) rest (length g + length u) both in
+    ap (λ n. drop n src) (let e : at + length g + length u ≡ at + (length g + length u) = omega arith in e) ∙ sym (drop-drop (length g + length u) at src) ∙ ap (drop (length g + length u)) (is ∙ sym (append_assoc g u rest)) ∙ drop_at (g ++ u) rest (length g + length u) both in
     record {
       moves = omega arith;
       within = omega (arith, all, len, tail, length-drop at src);
@@ -33,21 +29,30 @@ goes_before src at g kind u content rest fits is gap tok ok =
 -- the gap and the token, as lists
 abbrev Behind : Bytes → ℕ → ℕ → Scanned → Type 0
 Behind src at gap s = (g : Bytes) × (u : Bytes) × (content : Bytes) × (rest : Bytes) × (drop at src ≡ g ++ (u ++ rest)) × (length g ≡ gap) × (length content ≡ s.size) × IsLongestGap g (u ++ rest) × IsToken s.kind u content rest
-  × (take s.len (drop (at + gap) src) ≡ u) × (drop (at + gap + s.len) src ≡ rest)
+    × (take s.len (drop (at + gap) src) ≡ u) × (drop (at + gap + s.len) src ≡ rest)
 
 behind_gap : (src : Bytes) (at gap : ℕ) (found : LongestAt (drop at src) gap) → drop (at + gap) src ≡ found.1
 behind_gap src at gap found = sym (drop-drop gap at src) ∙ ap (drop gap) found.2 ∙ drop_at found.0 found.1 gap found.3
 
 behind : (src : Bytes) (at gap : ℕ) (s : Scanned) → LongestAt (drop at src) gap → TokenAt (drop (at + gap) src) s → Behind src at gap s
 behind src at gap s found token =
-    let same = sym (behind_gap src at gap found) ∙ token.3 in
-    (found.0, token.0, token.1, token.2, found.2 ∙ ap (λ w. found.0 ++ w) same, found.3, token.5, subst (IsLongestGap found.0) same found.4, token.6,
-     ap (take s.len) token.3 ∙ take_at token.0 token.2 s.len token.4,
-     sym (drop-drop s.len (at + gap) src) ∙ ap (drop s.len) token.3 ∙ drop_at token.0 token.2 s.len token.4)
+    let same = sym (behind_gap src at gap found) ∙ token.3 in (
+      found.0,
+      token.0,
+      token.1,
+      token.2,
+      found.2 ∙ ap (λ w. found.0 ++ w) same,
+      found.3,
+      token.5,
+      subst (IsLongestGap found.0) same found.4,
+      token.6,
+      ap (take s.len) token.3 ∙ take_at token.0 token.2 s.len token.4,
+      sym (drop-drop s.len (at + gap) src) ∙ ap (drop s.len) token.3 ∙ drop_at token.0 token.2 s.len token.4,
+    )
 
 pub next_good : (src : Bytes) (at gap : ℕ) (s : Scanned) → at ≤ length src → LongestAt (drop at src) gap → TokenAt (drop (at + gap) src) s
-  → fault (at + gap) s.kind (take s.len (drop (at + gap) src)) s.size (drop (at + gap + s.len) src) ≡ None
-  → GoesBefore src at (record { kind = s.kind; text = take s.len (drop (at + gap) src); at = at + gap })
+    → fault (at + gap) s.kind (take s.len (drop (at + gap) src)) s.size (drop (at + gap + s.len) src) ≡ None
+    → GoesBefore src at (record { kind = s.kind; text = take s.len (drop (at + gap) src); at = at + gap })
 next_good src at gap s fits found token ok = go (behind src at gap s found token)
   where
     go : Behind src at gap s → GoesBefore src at (record { kind = s.kind; text = take s.len (drop (at + gap) src); at = at + gap })
@@ -58,7 +63,7 @@ next_good src at gap s fits found token ok = go (behind src at gap s found token
         subst (λ w. GoesBefore src at (record { kind = s.kind; text = w; at = at + gap })) (sym text) moved
 
 pub next_bad : (src : Bytes) (at gap : ℕ) (s : Scanned) (e : LexError) → LongestAt (drop at src) gap → TokenAt (drop (at + gap) src) s
-  → fault (at + gap) s.kind (take s.len (drop (at + gap) src)) s.size (drop (at + gap + s.len) src) ≡ Some e → Refusal at (drop at src) e
+    → fault (at + gap) s.kind (take s.len (drop (at + gap) src)) s.size (drop (at + gap + s.len) src) ≡ Some e → Refusal at (drop at src) e
 next_bad src at gap s e found token bad = go (behind src at gap s found token)
   where
     go : Behind src at gap s → Refusal at (drop at src) e

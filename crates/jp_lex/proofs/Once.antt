@@ -1,13 +1,13 @@
 -- A source has one cutting or one refusal, and not both.
-use Rattle.std.proofs.Common.{◌≡◌, ℕ, zero, suc, ◌+◌, ◌-◌, ◌<◌, ◌≤◌, List, [], ◌∷◌, ◌++◌, length, drop, Option, Some, None, ◌⊎◌, inl, inr, refl, sym, ap, ap₂, ◌∙◌, subst, arith, append_assoc, length-append}
+use Rattle.std.proofs.Common.{◌≡◌, ℕ, ◌+◌, ◌<◌, List, [], ◌∷◌, ◌++◌, length, refl, sym, ap, ◌∙◌, subst, arith, length-append}
 use Rattle.std.proofs.lemmas.List.{append-nil}
 use Rattle.jp_lex.specs.declared.scan.Scanned.{Scanned}
 use Rattle.jp_lex.specs.declared.token.TokenKind.{TokenKind}
 use Rattle.jp_lex.specs.declared.token.LexError.{LexError}
-use Rattle.jp_lex.specs.Cutting.{Bytes, IsLongestGap, Form, IsToken, NoToken, fault, unmatched, Lexeme, Cut, Refusal}
+use Rattle.jp_lex.specs.Cutting.{Bytes, IsLongestGap, Form, IsToken, NoToken, fault, Lexeme, Cut, Refusal}
 use Rattle.jp_lex.specs.Scan.{scan}
 use Rattle.jp_lex.proofs.Bytes.{same_front}
-use Rattle.jp_lex.proofs.Tokens.{form_whole, some_same, scanned}
+use Rattle.jp_lex.proofs.Found.{form_whole, some_same, scanned}
 
 pub Form-some : {kind : TokenKind} {u content : Bytes} → Form kind u content → 0 < length u
 Form-some (Form.word b v is letter all) = omega (arith, ap length is)

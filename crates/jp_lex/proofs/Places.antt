@@ -1,15 +1,9 @@
 -- Tokens are slices of the source, and their places ascend.
-use Rattle.std.proofs.Common.{◌≡◌, ℕ, zero, suc, ◌+◌, ◌-◌, ◌<◌, ◌≤◌, List, [], ◌∷◌, ◌++◌, length, take, drop, get_or, refl, sym, ap, ◌∙◌, arith, append_assoc, length-append}
+use Rattle.std.proofs.Common.{◌≡◌, ℕ, zero, suc, ◌+◌, ◌-◌, ◌<◌, ◌≤◌, List, ◌∷◌, ◌++◌, length, take, drop, get_or, refl, sym, ap, ◌∙◌, arith}
 use Rattle.std.proofs.lemmas.List.{take_at, drop_at, drop-drop}
+use Rattle.std.proofs.lemmas.List.Elements.{All-cons}
 use Rattle.std.specs.List.{All, AllPairs}
-use Rattle.jp_lex.specs.Cutting.{Bytes, IsLongestGap, Lexeme, Cut, IsSliceOf, StandsBefore, AreSlices, Ascend}
-
-all_more : (P : Lexeme → Type 0) (t : Lexeme) (ts : List Lexeme) → P t → All P ts → All P (t ∷ ts)
-all_more P t ts here more = λ k d lt. go k d lt
-  where
-    go : (k : ℕ) (d : Lexeme) → k < length (t ∷ ts) → P (get_or (t ∷ ts) k d)
-    go zero d lt = here
-    go (suc k) d lt = more k d (omega arith)
+use Rattle.jp_lex.specs.Cutting.{Bytes, Lexeme, Cut, IsSliceOf, StandsBefore, AreSlices, Ascend}
 
 pairs_more : (R : Lexeme → Lexeme → Type 0) (t : Lexeme) (ts : List Lexeme) → All (R t) ts → AllPairs R ts → AllPairs R (t ∷ ts)
 pairs_more R t ts first more = λ i j d lt within. go i j d lt within
@@ -30,13 +24,13 @@ cut_slices (Cut.done long) whole from = λ k d lt. absurd (omega arith)
 cut_slices {p} {src} (Cut.token {ts = ts} g kind u content rest is long tok ok more) whole from =
     let at = behind whole p g u rest src from is in
     let n : p + length g + length u - (p + length g) ≡ length u = omega arith in
-    all_more (IsSliceOf whole) (record { kind = kind; text = u; at = p + length g }) ts (ap (λ m. take m (drop (p + length g) whole)) n ∙ ap (take (length u)) at.0 ∙ take_at u rest (length u) refl) (cut_slices more whole at.1)
+    All-cons (IsSliceOf whole) (record { kind = kind; text = u; at = p + length g }) ts (ap (λ m. take m (drop (p + length g) whole)) n ∙ ap (take (length u)) at.0 ∙ take_at u rest (length u) refl) (cut_slices more whole at.1)
 
 -- each token stands at the place p or behind it
 cut_behind : {p : ℕ} {src : Bytes} {ts : List Lexeme} → Cut p src ts → (q : ℕ) → q ≤ p → All (λ t. q ≤ t.at) ts
 cut_behind (Cut.done long) q le = λ k d lt. absurd (omega arith)
 cut_behind {p} (Cut.token {ts = ts} g kind u content rest is long tok ok more) q le =
-    all_more (λ t. q ≤ t.at) (record { kind = kind; text = u; at = p + length g }) ts (omega arith) (cut_behind more q (omega arith))
+    All-cons (λ t. q ≤ t.at) (record { kind = kind; text = u; at = p + length g }) ts (omega arith) (cut_behind more q (omega arith))
 
 pub cut_ascends : {p : ℕ} {src : Bytes} {ts : List Lexeme} → Cut p src ts → Ascend ts
 cut_ascends (Cut.done long) = λ i j d lt within. absurd (omega arith)

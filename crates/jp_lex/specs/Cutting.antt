@@ -1,5 +1,5 @@
 -- How the source of a statement is cut into gaps and tokens: by the shape of its bytes, and without a scan.
-use Rattle.std.specs.Prelude.{◌≡◌, ◌⊎◌, ℕ, zero, suc, ◌+◌, ◌-◌, ◌*◌, ◌^◌, ◌≤◌, Bool, true, false, not, ◌&&◌, ◌||◌, ◌==◌, nat_le, nat_lt, if◌then◌else◌, List, [], ◌∷◌, ◌++◌, length, map, fold, slice_index, Option, Some, None, Result, Ok, Err}
+use Rattle.std.specs.Prelude.{◌≡◌, ◌⊎◌, ℕ, suc, ◌+◌, ◌-◌, ◌*◌, ◌^◌, ◌≤◌, Bool, true, false, not, ◌&&◌, ◌||◌, ◌==◌, nat_le, nat_lt, if◌then◌else◌, List, [], ◌∷◌, ◌++◌, length, map, fold, slice_index, Option, Some, None}
 use Rattle.std.specs.List.{list_all, slice_range, All, AllPairs}
 use Rattle.std.specs.Str.{IsUtf8, IsValidUpTo}
 use Rattle.jp_lex.specs.declared.token.TokenKind.{TokenKind}
@@ -136,15 +136,15 @@ lexemes ts = map lexeme ts
 pub data Cut : ℕ → Bytes → List Lexeme → Type 0 where
   done : {p : ℕ} {src : Bytes} → IsLongestGap src [] → Cut p src []
   token : {p : ℕ} {src : Bytes} {ts : List Lexeme} (g : Bytes) (kind : TokenKind) (u content rest : Bytes) → src ≡ g ++ (u ++ rest) → IsLongestGap g (u ++ rest) → IsToken kind u content rest
-    → fault (p + length g) kind u (length content) rest ≡ None → Cut (p + length g + length u) rest ts → Cut p src (record { kind = kind; text = u; at = p + length g } ∷ ts)
+      → fault (p + length g) kind u (length content) rest ≡ None → Cut (p + length g + length u) rest ts → Cut p src (record { kind = kind; text = u; at = p + length g } ∷ ts)
 
 -- `Refusal p src e`: the cutting of the source from the place p on fails, at the first place where it does by e
 pub data Refusal : ℕ → Bytes → LexError → Type 0 where
   no_token : {p : ℕ} {src : Bytes} {e : LexError} (g : Bytes) (b : ℕ) (rest : Bytes) → src ≡ g ++ (b ∷ rest) → IsLongestGap g (b ∷ rest) → NoToken (b ∷ rest) → e ≡ unmatched (p + length g) b rest → Refusal p src e
   bad_token : {p : ℕ} {src : Bytes} {e : LexError} (g : Bytes) (kind : TokenKind) (u content rest : Bytes) → src ≡ g ++ (u ++ rest) → IsLongestGap g (u ++ rest) → IsToken kind u content rest
-    → fault (p + length g) kind u (length content) rest ≡ Some e → Refusal p src e
+      → fault (p + length g) kind u (length content) rest ≡ Some e → Refusal p src e
   later : {p : ℕ} {src : Bytes} {e : LexError} (g : Bytes) (kind : TokenKind) (u content rest : Bytes) → src ≡ g ++ (u ++ rest) → IsLongestGap g (u ++ rest) → IsToken kind u content rest
-    → fault (p + length g) kind u (length content) rest ≡ None → Refusal (p + length g + length u) rest e → Refusal p src e
+      → fault (p + length g) kind u (length content) rest ≡ None → Refusal (p + length g + length u) rest e → Refusal p src e
 
 -- the lexeme is the slice of the source at its place
 abbrev pub IsSliceOf : Bytes → Lexeme → Type 0

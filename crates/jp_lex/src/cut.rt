@@ -5,11 +5,10 @@ ghost use Rattle.jp_lex.specs.Chars.{is_letter};
 ghost use Rattle.jp_lex.specs.Cutting as spec;
 ghost use Rattle.jp_lex.specs.Scan.{TokenAt, IsTokenOr, IsEndOr, IsNext};
 
-use std::alloc::Global;
-
 use crate::chars::is_letter;
 use crate::scan::{Scanned, gap_len, scan};
 use crate::token::{LexError, Token, TokenKind};
+use std::alloc::Global;
 
 /// The most bytes of a name.
 const LONGEST_NAME: usize = 63;
@@ -79,7 +78,13 @@ fn token_at(text: &str, start: usize, found: Scanned) -> Result<Token<'_>, LexEr
 {
     let end = start + found.len;
     let src = text.as_bytes();
-    match fault(start as u32, found.kind, &src[start..end], found.size, &src[end..]) {
+    match fault(
+        start as u32,
+        found.kind,
+        &src[start..end],
+        found.size,
+        &src[end..],
+    ) {
         Some(error) => Err(error),
         None => Ok(Token {
             kind: found.kind,
@@ -120,7 +125,7 @@ fn next_token(text: &str, at: usize) -> Result<Option<Token<'_>>, LexError>
 }
 
 /// The tokens of a text.
-fn cut(alloc: Global, text: &str) -> Result<Vec<Token<'_>>, LexError>
+pub(crate) fn cut(alloc: Global, text: &str) -> Result<Vec<Token<'_>>, LexError>
     requires { length text.now ≤ 65536 }
     ensures { MatchResult result
         (λ v. spec.Cut 0 text.now (spec.lexemes v.items))

@@ -147,13 +147,20 @@ fn is_symbol(b: u8) -> bool
 fn is_long_symbol(b: u8, next: u8) -> bool
     ensures { result ≡ cutting.is_long_symbol b next }
 {
-    matches!((b, next), (b'<', b'>') | (b'<' | b'!' | b'>', b'=') | (b'|', b'|'))
+    matches!(
+        (b, next),
+        (b'<', b'>') | (b'<' | b'!' | b'>', b'=') | (b'|', b'|')
+    )
 }
 
 fn plain(kind: TokenKind, len: usize) -> Scanned
     ensures { result ≡ spec.plain kind len }
 {
-    Scanned { kind, len, size: len }
+    Scanned {
+        kind,
+        len,
+        size: len,
+    }
 }
 
 fn word_len(src: &[u8]) -> usize

@@ -1,4 +1,3 @@
-use Rattle.std.proofs.Common.{arith, rules}
 use Rattle.jp_lex.proofs.Values.{too_wide}
 use Rattle.jp_lex.proofs.cut.fits.Goals as goal
 

@@ -1,7 +1,6 @@
-use Rattle.std.proofs.Common.{◌≡◌, ℕ, ◌+◌, ◌≤◌, drop, Some, None, sym, ◌∙◌, subst, rules}
-use Rattle.jp_lex.specs.Scan.{LongestAt, TokenAt, GoesBefore}
-use Rattle.jp_lex.specs.Cutting.{Refusal}
-use Rattle.jp_lex.proofs.Tokens.{token_finds}
+use Rattle.std.proofs.Common.{◌+◌, drop, Some, None, sym, ◌∙◌, subst, rules}
+use Rattle.jp_lex.specs.Scan.{TokenAt, GoesBefore}
+use Rattle.jp_lex.proofs.Found.{token_finds}
 use Rattle.jp_lex.proofs.Edges.{edges}
 use Rattle.jp_lex.proofs.Next.{gap_of, scan_of, rest_of, start_fits, next_good, next_bad, next_refusal, next_end}
 use Rattle.jp_lex.proofs.cut.next_token.Goals as goal

@@ -6,7 +6,7 @@ abbrev pub invariant-loop-rest : goal.invariant-loop-rest
 invariant-loop-rest l = record {
   same : comment_from false l.depth l.at l.rest ≡ comment_from false 0 2 l.comment;
   place : l.at + length l.rest ≡ length l.comment + 2;
-  few : l.depth + 2 ≤ l.at
+  few : l.depth + 2 ≤ l.at;
 }
 
 abbrev pub decreases-loop-rest : goal.decreases-loop-rest

@@ -1,4 +1,4 @@
-use Rattle.std.proofs.Common.{◌<◌, ◌≤◌, length, arith}
+use Rattle.std.proofs.Common.{arith}
 use Rattle.jp_lex.proofs.Gaps.{gap_ends, gap_goes}
 use Rattle.jp_lex.proofs.scan.gap_len.Goals as goal
 

@@ -5,7 +5,7 @@ use Rattle.jp_lex.proofs.scan.gap_len.Given as goal
 abbrev pub invariant-pieces : goal.invariant-pieces
 invariant-pieces l = record {
   within : l.len ≤ length l.src;
-  longest : (n : ℕ) → LongestAt (drop l.len l.src) n → LongestAt l.src (l.len + n)
+  longest : (n : ℕ) → LongestAt (drop l.len l.src) n → LongestAt l.src (l.len + n);
 }
 
 abbrev pub decreases-pieces : goal.decreases-pieces

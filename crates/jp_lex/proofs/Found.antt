@@ -1,5 +1,5 @@
 -- What the scan finds is the token at the front, and where it finds none there is none.
-use Rattle.std.proofs.Common.{◌≡◌, ℕ, zero, suc, ◌+◌, ◌-◌, ◌<◌, ◌≤◌, Bool, true, false, not, ◌&&◌, ◌||◌, cond, eqb, List, [], ◌∷◌, ◌++◌, length, take, drop, get_or, Option, Some, None, refl, sym, ap, ap₂, ◌∙◌, subst, arith, append_assoc, length-append}
+use Rattle.std.proofs.Common.{◌≡◌, ℕ, ◌+◌, ◌≤◌, Bool, true, false, cond, eqb, [], ◌∷◌, ◌++◌, length, get_or, Option, Some, None, refl, sym, ap, ap₂, ◌∙◌, subst, arith, append_assoc, length-append}
 use Rattle.std.proofs.lemmas.Bool.{and_from, eqb-true}
 use Rattle.std.proofs.lemmas.Bool.Decides.{nat_tests}
 use Rattle.std.specs.List.{prefix_len, list_all}
@@ -7,9 +7,9 @@ use Rattle.jp_lex.specs.declared.scan.Scanned.{Scanned}
 use Rattle.jp_lex.specs.declared.token.TokenKind.{TokenKind}
 use Rattle.jp_lex.specs.declared.token.TokenKind.TheVariants.{Word, Quoted, Number, Text, Symbol}
 use Rattle.jp_lex.specs.Chars.{is_letter, is_digit, is_word_byte}
-use Rattle.jp_lex.specs.Cutting.{Bytes, is_symbol, is_long_symbol, begins, Body, Form, Closes, IsToken, NoToken}
+use Rattle.jp_lex.specs.Cutting.{Bytes, is_symbol, is_long_symbol, begins, Body, Form, Closes, NoToken}
 use Rattle.jp_lex.specs.Scan.{quote_from, plain, closed, symbol, scan, TokenAt}
-use Rattle.jp_lex.proofs.Bytes.{prefix_all, prefix_whole, span, same_front, quote_exact, quote_reaches, quote_finds}
+use Rattle.jp_lex.proofs.Bytes.{prefix_all, prefix_whole, span, quote_exact, quote_reaches, quote_finds}
 
 -- ---- classes that share no byte
 
@@ -227,8 +227,8 @@ form_finds [] s h = absurd (cc)
 form_finds (b ∷ v) s h = go (is_letter b) (is_digit b) (eqb b 34) (eqb b 39) refl refl refl refl h
   where
     go : (l d q t : Bool) → is_letter b ≡ l → is_digit b ≡ d → eqb b 34 ≡ q → eqb b 39 ≡ t
-      → cond l (Some (plain Word (prefix_len is_word_byte (b ∷ v)))) (cond d (Some (plain Number (prefix_len is_digit (b ∷ v)))) (cond q (closed Quoted (quote_from 34 false 1 0 v)) (cond t (closed Text (quote_from 39 false 1 0 v)) (symbol b (get_or v 0 0))))) ≡ Some s
-      → Finds (b ∷ v) s
+        → cond l (Some (plain Word (prefix_len is_word_byte (b ∷ v)))) (cond d (Some (plain Number (prefix_len is_digit (b ∷ v)))) (cond q (closed Quoted (quote_from 34 false 1 0 v)) (cond t (closed Text (quote_from 39 false 1 0 v)) (symbol b (get_or v 0 0))))) ≡ Some s
+        → Finds (b ∷ v) s
     go true d q t letter digit quote text e = word_finds b v s letter e
     go false true q t letter digit quote text e = number_finds b v s digit e
     go false false true t letter digit quote text e = subst (λ x. Finds (x ∷ v) s) (sym (eqb-true b 34 quote)) (quoted_finds v s e)
@@ -237,9 +237,15 @@ form_finds (b ∷ v) s h = go (is_letter b) (is_digit b) (eqb b 34) (eqb b 39) r
 
 pub token_finds : (src : Bytes) (s : Scanned) → scan src ≡ Some s → TokenAt src s
 token_finds src s h =
-    let found = form_finds src s h in
-    (found.0, found.1, found.2, found.3, found.4, found.5,
-     record { form = found.6; longest = λ kind v inside after e form. omega (arith, found.4, reaches form after s (ap scan (sym e) ∙ ap scan (sym found.3) ∙ h)); closes = found.7 })
+    let found = form_finds src s h in (
+      found.0,
+      found.1,
+      found.2,
+      found.3,
+      found.4,
+      found.5,
+      record { form = found.6; longest = λ kind v inside after e form. omega (arith, found.4, reaches form after s (ap scan (sym e) ∙ ap scan (sym found.3) ∙ h)); closes = found.7 },
+    )
 
 pub no_token : (src : Bytes) → scan src ≡ None → NoToken src
 no_token src h = λ kind u content rest e t. form_found t.form rest t.closes (ap scan (sym e) ∙ h)
