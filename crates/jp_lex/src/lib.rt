@@ -8,6 +8,8 @@ ghost use Rattle.jp_lex.specs.declared.token.LexError.{LexError as Reason};
 mod chars;
 mod cut;
 mod scan;
+#[cfg(test)]
+mod tests;
 mod token;
 
 use cut::cut;
