@@ -1,4 +1,5 @@
 -- How the source of a statement is cut into gaps and tokens: by the shape of its bytes, and without a scan.
+-- In bytes `"` is 34, `'` is 39, `*` is 42, `-` is 45, `/` is 47 and a line feed is 10.
 use Rattle.std.specs.Prelude.{◌≡◌, ◌⊎◌, ℕ, suc, ◌+◌, ◌-◌, ◌*◌, ◌^◌, ◌≤◌, Bool, true, false, not, ◌&&◌, ◌||◌, ◌==◌, nat_le, nat_lt, if◌then◌else◌, List, [], ◌∷◌, ◌++◌, length, map, fold, slice_index, Option, Some, None}
 use Rattle.std.specs.List.{list_all, slice_range, All, AllPairs}
 use Rattle.std.specs.Str.{IsUtf8, IsValidUpTo}
@@ -61,13 +62,13 @@ is_symbol b = (nat_le 40 b && nat_le b 46) || b == 59 || (nat_le 60 b && nat_le 
 abbrev pub is_long_symbol : ℕ → ℕ → Bool
 is_long_symbol b next = (b == 60 && next == 62) || ((b == 60 || b == 33 || b == 62) && next == 61) || (b == 124 && next == 124)
 
--- `Body q v content`: v stands between two quotes q, and each quote in it is doubled; the content has one of the two
+-- `Body q v content`: v may stand between two quotes q, since each quote in it is doubled; the content has one of each two
 pub data Body (q : ℕ) : Bytes → Bytes → Type 0 where
   empty : Body q [] []
   other : {v content : Bytes} (b : ℕ) → (b == q) ≡ false → Body q v content → Body q (b ∷ v) (b ∷ content)
   doubled : {v content : Bytes} → Body q v content → Body q (q ∷ q ∷ v) (q ∷ content)
 
--- `Form kind u content`: u is written as a token of the kind
+-- `Form kind u content`: u is written as a token of the kind. The content is what stands between the quotes, or all of u.
 pub data Form : TokenKind → Bytes → Bytes → Type 0 where
   word : {u : Bytes} (b : ℕ) (v : Bytes) → u ≡ b ∷ v → is_letter b ≡ true → list_all is_word_byte v ≡ true → Form Word u u
   quoted : {u content : Bytes} (v : Bytes) → u ≡ 34 ∷ v ++ (34 ∷ []) → Body 34 v content → Form Quoted u content
@@ -81,13 +82,13 @@ abbrev pub begins : ℕ → Bytes → Bool
 begins b [] = false
 begins b (next ∷ rest) = next == b
 
--- a quote that is doubled ends no token
+-- what follows a token doesn't go on with it: a doubled quote ends no token
 abbrev pub Closes : TokenKind → Bytes → Type 0
 Closes Quoted rest = begins 34 rest ≡ false
 Closes Text rest = begins 39 rest ≡ false
 Closes _ rest = Unit {0}
 
--- u is a token, and no longer slice from its start has a form
+-- u begins the source as a token of the kind, and rest follows it: no longer slice from its start has a form
 pub record IsToken (kind : TokenKind) (u content rest : Bytes) : Type 0 where
   pub form : Form kind u content
   pub longest : (other : TokenKind) (v inside after : Bytes) → u ++ rest ≡ v ++ after → Form other v inside → length v ≤ length u
@@ -103,7 +104,8 @@ NoToken src = (kind : TokenKind) (u content rest : Bytes) → src ≡ u ++ rest 
 abbrev pub value : Bytes → ℕ
 value digits = fold (λ n b. 10 * n + (b - 48)) 0 digits
 
--- what is wrong with the token u at a place, if anything; `size` counts the bytes of its content
+-- What is wrong with the token u at a place, if anything, where rest follows it; `size` counts the bytes of its content.
+-- The byte after a number is judged before its value.
 abbrev pub fault : ℕ → TokenKind → Bytes → ℕ → Bytes → Option LexError
 fault at Word u size rest = if nat_le size 63 then None else Some (error.NameTooLong at)
 fault at Quoted u size rest = if size == 0 then Some (error.BadByte at) else (if nat_le size 63 then None else Some (error.NameTooLong at))
@@ -132,13 +134,13 @@ lexeme t = record { kind = t.kind; text = t.text.now; at = t.at }
 abbrev pub lexemes : List Token → List Lexeme
 lexemes ts = map lexeme ts
 
--- `Cut p src ts`: the source from the place p on is a gap and a token in turn, without rest, and the tokens are ts
+-- `Cut p src ts`: src stands at the place p, and is cut without rest into gaps and tokens in turn; the tokens are ts
 pub data Cut : ℕ → Bytes → List Lexeme → Type 0 where
   done : {p : ℕ} {src : Bytes} → IsLongestGap src [] → Cut p src []
   token : {p : ℕ} {src : Bytes} {ts : List Lexeme} (g : Bytes) (kind : TokenKind) (u content rest : Bytes) → src ≡ g ++ (u ++ rest) → IsLongestGap g (u ++ rest) → IsToken kind u content rest
       → fault (p + length g) kind u (length content) rest ≡ None → Cut (p + length g + length u) rest ts → Cut p src (record { kind = kind; text = u; at = p + length g } ∷ ts)
 
--- `Refusal p src e`: the cutting of the source from the place p on fails, at the first place where it does by e
+-- `Refusal p src e`: src stands at the place p, and e says where its cutting fails first, and why
 pub data Refusal : ℕ → Bytes → LexError → Type 0 where
   no_token : {p : ℕ} {src : Bytes} {e : LexError} (g : Bytes) (b : ℕ) (rest : Bytes) → src ≡ g ++ (b ∷ rest) → IsLongestGap g (b ∷ rest) → NoToken (b ∷ rest) → e ≡ unmatched (p + length g) b rest → Refusal p src e
   bad_token : {p : ℕ} {src : Bytes} {e : LexError} (g : Bytes) (kind : TokenKind) (u content rest : Bytes) → src ≡ g ++ (u ++ rest) → IsLongestGap g (u ++ rest) → IsToken kind u content rest
