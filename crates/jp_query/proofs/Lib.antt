@@ -1,0 +1,3 @@
+pub mod FoldLaws
+pub mod RefsLaws
+pub mod SetWords
