@@ -1,8 +1,8 @@
 -- The order of two values, and when they are the same.
-use Rattle.std.specs.Prelude.{◌≡◌, ℕ, ℤ, Bool, true, false, List, Option, Some, None}
+use Rattle.std.specs.Prelude.{Bool, true, false, Option, Some, None}
 use Rattle.std.specs.declared.cmp.Ordering.{Ordering}
 use Rattle.std.specs.declared.cmp.Ordering.TheVariants.{Less, Equal, Greater}
-use Rattle.std.specs.Ordering.{nat_cmp, int_cmp, bool_cmp}
+use Rattle.std.specs.Ordering.{is_eq, nat_cmp, int_cmp, bool_cmp}
 use Rattle.std.specs.Cmp.Lexicographic.{slice_cmp}
 use Rattle.jp_base.specs.declared.values.Value.{Value}
 use Rattle.jp_base.specs.declared.values.Value.TheVariants as value
@@ -34,11 +34,6 @@ IsComparable (value.Bool _) (value.Bool _) = Unit {0}
 IsComparable (value.Text _) (value.Text _) = Unit {0}
 IsComparable _ _ = ⊥
 
-abbrev pub is_equal : Ordering → Bool
-is_equal Equal = true
-is_equal Less = false
-is_equal Greater = false
-
 abbrev pub is_null : Value → Bool
 is_null value.Null = true
 is_null _ = false
@@ -48,7 +43,7 @@ abbrev pub are_equal : Value → Value → Bool
 are_equal a b = in_order (order_of a b)
   where
     in_order : Option Ordering → Bool
-    in_order (Some order) = is_equal order
+    in_order (Some order) = is_eq order
     in_order None = false
 
 -- SQL's "not distinct": both are NULL, or they are equal

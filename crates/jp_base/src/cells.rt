@@ -36,7 +36,7 @@ impl Cell<'_> {
 /// The order of two values of one type: numbers by size, False below True, texts by their bytes. None where
 /// one is NULL, since SQL then calls each comparison unknown.
 pub fn compare(a: Cell<'_>, b: Cell<'_>) -> Option<Ordering>
-    requires { IsComparable (value_of_cell a.entry) (value_of_cell b.entry) }
+    requires { IsComparable (value_of_cell a) (value_of_cell b) }
     ensures order { result ≡ order_of (value_of_cell a.entry) (value_of_cell b.entry) }
     ensures none { IsNone result ↔ ((value_of_cell a.entry ≡ value.Null) ⊎ (value_of_cell b.entry ≡ value.Null)) }
 {

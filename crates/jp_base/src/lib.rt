@@ -3,6 +3,8 @@
 
 mod cells;
 mod sets;
+#[cfg(test)]
+mod tests;
 mod text;
 mod truth;
 mod values;

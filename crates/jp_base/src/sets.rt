@@ -1,4 +1,4 @@
-ghost use Rattle.std.specs.Prelude.{◌≡◌, ℕ, ◌<◌, ◌↔◌, List, IsTrue, IsNone, IfSome, nat_eq, count_by};
+ghost use Rattle.std.specs.Prelude.{◌≡◌, ℕ, ◌<◌, ◌≤◌, ◌↔◌, List, IsTrue, IsNone, IfSome, nat_eq, count_by};
 ghost use Rattle.jp_base.specs.Sets.{Has, IsEmpty, IsOnly, IsUnion, IsDifference, Within, Meets, IsSameSet, IsLeastMember, IsGreatestBelow, IsWalk};
 
 use std::marker::Model;
@@ -81,6 +81,7 @@ impl RelSet {
     pub fn first(self) -> Option<u8>
         ensures none { IsNone result ↔ IsEmpty self }
         ensures least { IfSome result (λ i. IsLeastMember self i) }
+        ensures below { IfSome result (λ i. i < 64) }
     {
         if self.bits == 0 {
             None
@@ -124,12 +125,10 @@ fn greatest_part(set: u64, top: u64) -> u64
 /// A law: sets with the same members are equal.
 pub fn same_members()
     ensures { (a b : ℕ) → IsSameSet a b → a ≡ b }
-{
-}
+{}
 
 /// A law of `next_part`: whoever walks with it from a set down to the empty set meets each subset once.
 pub fn each_part_once()
     ensures { (set : ℕ) (parts : List ℕ) → IsWalk set set parts →
         (q : ℕ) → Within q set → count_by (nat_eq q) parts ≡ 1 }
-{
-}
+{}

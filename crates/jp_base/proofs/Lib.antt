@@ -1,0 +1,3 @@
+pub mod GreatestPart
+pub mod SetLemmas
+pub mod WalkLemmas

@@ -1,0 +1,5 @@
+use Rattle.jp_base.proofs.SetLemmas.{only_one}
+use Rattle.jp_base.proofs.sets.RelSet.one.Goals as goal
+
+pub returns : goal.returns
+returns c = λ k. only_one c.args.i k c.requires
