@@ -1,5 +1,5 @@
 -- The relations that a tree speaks of: those of its columns and placeholders, sublinks and sub-selects included, as a
--- mask in which bit i stands for relation i.
+-- mask in which bit i stands for relation i. A number from 64 on, which no typed expression has, is in no set.
 use Rattle.std.specs.Prelude.{ℕ, ◌^◌, ◌%◌, Bool, List, map, fold, bit_or, Option, Some, None}
 use Rattle.jp_query.specs.Layers.{Expr, JoinTree, Order, Output, Query, Expr-F, JoinTree-F, Order-F, Output-F, Query-F, fold-Expr, fold-JoinTree, fold-Order, fold-Output, fold-Query}
 
@@ -10,7 +10,7 @@ only i = 2 ^ i
 abbrev pub union : List ℕ → ℕ
 union = fold bit_or 0
 
--- the part of a set below 64, where the relations of every typed tree lie
+-- the members of a set below 64
 abbrev pub below_64 : ℕ → ℕ
 below_64 set = set % 2 ^ 64
 
@@ -25,7 +25,7 @@ maybe_refs None = 0
 maybe_refs (Some set) = set
 
 abbrev pub expr_refs : Expr-F ℕ ℕ ℕ ℕ ℕ → ℕ
-expr_refs (Expr-F.Col rel col ty nulled) = only rel
+expr_refs (Expr-F.Col rel col ty nulled) = below_64 (only rel)
 expr_refs (Expr-F.Lit value ty) = 0
 expr_refs (Expr-F.Place inner rels) = bit_or inner rels
 expr_refs (Expr-F.Neg operand) = operand

@@ -7,6 +7,11 @@
 
 
 mod copies;
+mod examples;
+mod references;
+
+pub use examples::{worked_joins, worked_orders, worked_values};
+pub use references::refs;
 
 use jp_base::{RelNo, RelSet, SubNo, Ty, Txt, Value};
 use sqlite_items::{Boxed, Items};
