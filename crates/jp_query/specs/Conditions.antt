@@ -63,7 +63,7 @@ module _ (schema : Schema) (tests : Tests) where
   expr_judged x = record {
     value = bound_at x;
     passes = λ scope. tests.bound (bound_at x scope) && (list_all (tests.column scope) (column_of x) && (list_all (tests.placeholder scope) (placeholder_of x)
-      && (list_all (passes_in scope) (parts x) && list_all (passes_in scope) (option_part (sublink_query x)))));
+        && (list_all (passes_in scope) (parts x) && list_all (passes_in scope) (option_part (sublink_query x)))));
   }
 
   abbrev pub tree_passes : TreeLevel → Scope → Scope → Bool

@@ -17,8 +17,7 @@ pub fn worked_joins()
     ensures combinations { combinations
         ≡ (number 1 ∷ number 7 ∷ []) ∷ (number 1 ∷ number 8 ∷ [])
         ∷ (number 2 ∷ number 7 ∷ []) ∷ (number 2 ∷ number 8 ∷ []) ∷ [] }
-{
-}
+{}
 
 /// Laws: the meaning of DISTINCT and ORDER BY on a small table.
 pub fn worked_orders()
@@ -33,8 +32,7 @@ pub fn worked_orders()
     ensures descending { by_value true true
         ≡ (null ∷ number 4 ∷ []) ∷ (null ∷ number 0 ∷ [])
         ∷ (number 2 ∷ number 5 ∷ []) ∷ (number 1 ∷ number 9 ∷ []) ∷ (number 1 ∷ number 1 ∷ []) ∷ [] }
-{
-}
+{}
 
 /// Laws: values that NULLs leave.
 #[tactic(auto, unfolding(crate::specs::Meaning::any_present))]
@@ -52,5 +50,4 @@ pub fn worked_values()
     ensures column_absent { column 1 0 a_present ≡ null }
     ensures given_rows { in_given ((number 1 ∷ []) ∷ []) ≡ value.Bool true }
     ensures given_none { in_given [] ≡ value.Bool false }
-{
-}
+{}

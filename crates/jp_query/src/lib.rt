@@ -1,19 +1,17 @@
 //! The typed query tree: what resolution makes of a statement, what the planner rewrites, and what its rows mean.
 //!
-//! `specs/Meaning.antt` says which rows a query has, `specs/Conditions.antt` which trees are typed, bounded and
-//! fresh, and `specs/Nullness.antt` which expressions are surely NULL or not true where relations are absent.
+//! In `specs/`, `Meaning` says which rows a query has, `Typing` and `Conditions` which queries are typed and bounded,
+//! `Freshness` which are as resolution leaves them, and `Nullness` what surely holds of an expression where relations
+//! are absent.
 #![tactic(auto)]
-
-
 
 mod copies;
 mod examples;
 mod references;
 
 pub use examples::{worked_joins, worked_orders, worked_values};
+use jp_base::{RelNo, RelSet, SubNo, Txt, Ty, Value};
 pub use references::refs;
-
-use jp_base::{RelNo, RelSet, SubNo, Ty, Txt, Value};
 use sqlite_items::{Boxed, Items};
 
 /// A comparison of two values of one type.

@@ -54,7 +54,11 @@ pub fn refs(expr: &Expr) -> RelSet
 fn relation(rel: RelNo) -> RelSet
     ensures { result ≡ below_64 (only rel) }
 {
-    if rel < 64 { RelSet::one(rel) } else { nothing() }
+    if rel < 64 {
+        RelSet::one(rel)
+    } else {
+        nothing()
+    }
 }
 
 /// The set without members.
@@ -111,13 +115,19 @@ fn refs_in_tree(tree: &JoinTree) -> RelSet
         JoinTree::Base { .. } => nothing(),
         JoinTree::Sub { query, .. } => refs_in_query(query.get()),
         JoinTree::Join {
-            left, right, on, ..
+            left,
+            right,
+            on,
+            ..
         } => both(
             both(refs_in_tree(left.get()), refs_in_tree(right.get())),
             refs_in_list(on.as_slice()),
         ),
         JoinTree::From { members, conds } => {
-            both(refs_in_trees(members.as_slice()), refs_in_list(conds.as_slice()))
+            both(
+                refs_in_trees(members.as_slice()),
+                refs_in_list(conds.as_slice()),
+            )
         }
     }
 }
