@@ -1,3 +1,4 @@
 pub mod FoldLaws
 pub mod RefsLaws
 pub mod SetWords
+pub mod TreeRules

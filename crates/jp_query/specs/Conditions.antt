@@ -227,7 +227,8 @@ has_leaves = fold-Query Bool Bool Bool Bool Bool expr_rooted tree_rooted order_r
 
 -- Typed over a schema, inside the outer scope; a statement's query has the empty one.
 pub record IsTyped (schema : Schema) (outer : Scope) (query : Query) : Type 0 where
-  -- its expressions are typed, its outputs have their stated types, and the members of its condition lists are booleans
+  -- its expressions are typed, its outputs have their stated types, the members of its condition lists are booleans, and
+  -- its leaves have numbers below 64
   pub expressions : (typed_query query).is_typed ≡ true
   -- each column names a relation that is visible at its place, and has the type of that relation's column
   pub columns : (judged_query schema knows_columns query).passes outer ≡ true
@@ -237,8 +238,6 @@ pub record IsTyped (schema : Schema) (outer : Scope) (query : Query) : Type 0 wh
   pub distinct : (judged_query schema tells_relations_apart query).passes outer ≡ true
   -- two leaves have one number only inside two sublinks of one number
   pub apart : (leaves_of query).apart ≡ true
-  -- leaves have numbers below 64
-  pub small : All (λ n. n < 64) (leaves_in query)
   -- each base leaf has the number of a table of the schema
   pub tables : All (λ table. table < length schema) (tables_in query)
   -- each join tree, and each tree inside one, has at least one leaf

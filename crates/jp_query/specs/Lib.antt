@@ -9,4 +9,5 @@ pub mod Operators
 pub mod Parts
 pub mod Refs
 pub mod Scopes
+pub mod TreeExamples
 pub mod Typing

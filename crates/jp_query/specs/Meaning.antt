@@ -71,8 +71,8 @@ given rows sub query env = rows sub
 
 -- ---- expressions
 
-abbrev pub at : Env → ValueIn → Value
-at env v = v env
+abbrev pub value_at : Env → ValueIn → Value
+value_at env v = v env
 
 abbrev pub term_at : Env → Bool × ValueIn → Bool × Value
 term_at env term = (term.0, term.1 env)
@@ -98,17 +98,17 @@ expr_value subs (Expr-F.Lit v ty) env = v
 expr_value subs (Expr-F.Place inner rels) env = if any_present rels env then inner env else value.Null
 expr_value subs (Expr-F.Neg operand) env = negated (operand env)
 expr_value subs (Expr-F.Sum terms) env = sum_of (map (term_at env) terms)
-expr_value subs (Expr-F.Product factors) env = product_of (map (at env) factors)
-expr_value subs (Expr-F.Concat parts) env = concat_of (map (at env) parts)
+expr_value subs (Expr-F.Product factors) env = product_of (map (value_at env) factors)
+expr_value subs (Expr-F.Concat parts) env = concat_of (map (value_at env) parts)
 expr_value subs (Expr-F.Compare op left right) env = value_of_truth (compared op (left env) (right env))
 expr_value subs (Expr-F.Between operand low high) env = value_of_truth (between (operand env) (low env) (high env))
-expr_value subs (Expr-F.InList operand list) env = value_of_truth (among (operand env) (map (at env) list))
+expr_value subs (Expr-F.InList operand list) env = value_of_truth (among (operand env) (map (value_at env) list))
 expr_value subs (Expr-F.And members) env = value_of_truth (all_of (map (truth_at env) members))
 expr_value subs (Expr-F.Or members) env = value_of_truth (any_of (map (truth_at env) members))
 expr_value subs (Expr-F.Not operand) env = value_of_truth (not_of (truth_at env operand))
 expr_value subs (Expr-F.Test test operand) env = value.Bool (passes test (operand env))
-expr_value subs (Expr-F.Coalesce members) env = first_value (map (at env) members)
-expr_value subs (Expr-F.Case operand arms otherwise) env = case_of (option_map (at env) operand) (map (arm_at env) arms) (option_map (at env) otherwise)
+expr_value subs (Expr-F.Coalesce members) env = first_value (map (value_at env) members)
+expr_value subs (Expr-F.Case operand arms otherwise) env = case_of (option_map (value_at env) operand) (map (arm_at env) arms) (option_map (value_at env) otherwise)
 expr_value subs (Expr-F.Exists sub query) env = value.Bool (is_row (subs sub query env))
 expr_value subs (Expr-F.InSub sub operand query) env = value_of_truth (among (operand env) (map first_of (subs sub query env)))
 
@@ -214,7 +214,7 @@ abbrev pub key_at : Env → SortKey → Value
 key_at env key = key.key env
 
 abbrev pub line_at : List ValueIn → List SortKey → Env → Line
-line_at columns order env = record { outputs = map (at env) columns; keys = map (key_at env) order }
+line_at columns order env = record { outputs = map (value_at env) columns; keys = map (key_at env) order }
 
 -- rows are the same where their values are, place by place: NULLs are the same here
 abbrev pub same_rows : Row → Row → Bool

@@ -78,7 +78,7 @@ abbrev pub is_one_of : Typed → List Ty → Bool
 is_one_of operand (t ∷ []) = is_of t operand
 is_one_of operand _ = false
 
--- the relation numbers of a typed expression lie below 64
+-- the relation numbers of a typed expression lie below 64, those of the leaves in its sublinks too
 abbrev pub expr_type : Expr-F Typed Bool Typed TypedOutput TypedQuery → Typed
 expr_type (Expr-F.Col rel col t nulled) = typed_if (nat_lt rel 64) t
 expr_type (Expr-F.Lit v t) = typed_if (is_literal v t) t
@@ -107,8 +107,8 @@ abbrev pub is_true_test : Bool → Bool
 is_true_test b = b
 
 abbrev pub tree_typed : JoinTree-F Typed Bool Typed TypedOutput TypedQuery → Bool
-tree_typed (JoinTree-F.Base rel name table) = true
-tree_typed (JoinTree-F.Sub rel name query) = query.is_typed
+tree_typed (JoinTree-F.Base rel name table) = nat_lt rel 64
+tree_typed (JoinTree-F.Sub rel name query) = nat_lt rel 64 && query.is_typed
 tree_typed (JoinTree-F.Join kind left right on) = left && (right && are_conditions on)
 tree_typed (JoinTree-F.From members conds) = list_all is_true_test members && are_conditions conds
 

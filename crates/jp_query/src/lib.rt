@@ -8,11 +8,13 @@
 mod copies;
 mod examples;
 mod references;
+mod tree_examples;
 
 pub use examples::{worked_joins, worked_orders, worked_values};
 use jp_base::{RelNo, RelSet, SubNo, Txt, Ty, Value};
 pub use references::refs;
 use sqlite_items::{Boxed, Items};
+pub use tree_examples::{worked_conditions, worked_nullness, worked_parts};
 
 /// A comparison of two values of one type.
 #[derive(Clone, Copy, Debug, PartialEq, Eq)]
