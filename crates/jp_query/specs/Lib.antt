@@ -1,6 +1,7 @@
 pub mod Conditions
 pub mod Examples
 pub mod Freshness
+pub mod InWords
 pub mod Joins
 pub mod Layers
 pub mod Meaning

@@ -1,6 +1,6 @@
 -- What surely holds of an expression where given relations are null-extended, or one given column is NULL. These tests are
 -- this product's own; each follows from the meaning of its operator.
-use Rattle.std.specs.Prelude.{ℕ, ◌==◌, ◌&&◌, ◌||◌, Bool, true, false, bit_and, List, [], ◌∷◌, ◌++◌, map, filter, Option, Some, None}
+use Rattle.std.specs.Prelude.{ℕ, ◌==◌, ◌&&◌, ◌||◌, Bool, true, false, bit_and, List, [], ◌∷◌, ◌++◌, map, Option, Some, None, if◌then◌else◌}
 use Rattle.std.specs.List.{list_all, list_any, range_with_len}
 use Rattle.jp_base.specs.declared.values.Value.{Value}
 use Rattle.jp_base.specs.declared.values.Value.TheVariants as value
@@ -98,8 +98,11 @@ rejects gone conds = list_any (is_rejecting gone) conds
 abbrev pub rejects_relation : List Expr → ℕ → Bool
 rejects_relation conds rel = rejects (Gone.relations (only rel)) conds
 
+abbrev pub rejected : List Expr → ℕ → ℕ
+rejected conds rel = if rejects_relation conds rel then only rel else 0
+
 unfoldable pub nonnull_items : List Expr → ℕ
-nonnull_items conds = union (map only (filter (rejects_relation conds) (range_with_len 0 64)))
+nonnull_items conds = union (map (rejected conds) (range_with_len 0 64))
 
 -- ---- the columns that a list forces to be NULL: those with a member `c IS NULL` or `c IS UNKNOWN`, the members of an
 -- AND among them

@@ -10,6 +10,8 @@ use Rattle.jp_query.specs.declared.JoinKind.TheVariants as join
 use Rattle.jp_query.specs.declared.Expr.TheViews.{roll-Expr, roll-JoinTree, roll-Order, roll-Output, roll-Query}
 use Rattle.jp_query.specs.Layers.{Expr, JoinTree, Output, Query, Expr-F, JoinTree-F}
 use Rattle.jp_query.specs.Scopes.{Column, Schema}
+use Rattle.jp_query.specs.Meaning.{Row}
+use Rattle.jp_query.specs.Freshness.{Sublink}
 
 -- two tables of two columns of 64-bit numbers
 abbrev pub number_column : Column
@@ -67,3 +69,20 @@ select e tree conds = roll-Query (record { columns = roll-Output (record { name 
 -- SELECT 1 FROM b WHERE b.1 = a.0
 abbrev pub inner_select : Query
 inner_select = select one b (equals (col 1 1) (col 0 0) ∷ [])
+
+-- SELECT e FROM a ORDER BY e
+abbrev pub ordered_by_itself : Expr → Query
+ordered_by_itself e = roll-Query (record {
+  columns = roll-Output (record { name = []; ty = ty.Boolean; expr = e }) ∷ [];
+  distinct = false;
+  tree = a;
+  conds = [];
+  order = roll-Order (record { expr = e; desc = false; nulls_first = false }) ∷ [];
+})
+
+abbrev pub number_of : Sublink → ℕ
+number_of sublink = sublink.number
+
+-- one record of the first table, and no second table
+abbrev pub some_tables : List (Option (List Row))
+some_tables = Some ((value.Num (pos 1) ∷ value.Null ∷ []) ∷ []) ∷ None ∷ []

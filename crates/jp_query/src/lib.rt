@@ -7,14 +7,18 @@
 
 mod copies;
 mod examples;
+mod laws;
 mod references;
+#[cfg(test)]
+mod tests;
 mod tree_examples;
 
 pub use examples::{worked_joins, worked_orders, worked_values};
 use jp_base::{RelNo, RelSet, SubNo, Txt, Ty, Value};
+pub use laws::{in_reads_as_said, tuples_have_the_relations};
 pub use references::refs;
 use sqlite_items::{Boxed, Items};
-pub use tree_examples::{worked_conditions, worked_nullness, worked_parts};
+pub use tree_examples::{worked_conditions, worked_freshness, worked_nullness, worked_parts};
 
 /// A comparison of two values of one type.
 #[derive(Clone, Copy, Debug, PartialEq, Eq)]

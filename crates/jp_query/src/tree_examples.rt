@@ -1,4 +1,4 @@
-ghost use Rattle.std.specs.Prelude.{◌≡◌, true, false, [], ◌∷◌, Some, None};
+ghost use Rattle.std.specs.Prelude.{◌≡◌, map, true, false, [], ◌∷◌, Some, None};
 ghost use Rattle.jp_base.specs.declared.values.Ty.TheVariants as ty;
 ghost use Rattle.jp_query.specs.declared.IsTest.TheVariants as is;
 ghost use Rattle.jp_query.specs.declared.JoinKind.TheVariants as join;
@@ -6,9 +6,11 @@ ghost use Rattle.jp_query.specs.Refs.{refs_of};
 ghost use Rattle.jp_query.specs.Parts.{outer_references, rels_of, nodes_in};
 ghost use Rattle.jp_query.specs.Typing.{type_of, typed_query};
 ghost use Rattle.jp_query.specs.Conditions.{judged_query, knows_columns, knows_placeholders, tells_relations_apart, keeps_bounds, leaves_of, has_leaves};
-ghost use Rattle.jp_query.specs.Nullness.{surely_of, rejects, forced_null};
+ghost use Rattle.jp_query.specs.Scopes.{Belong};
+ghost use Rattle.jp_query.specs.Freshness.{places_of, sublinks_in};
+ghost use Rattle.jp_query.specs.Nullness.{rejects_relation, surely_of, rejects, forced_null};
 ghost use Rattle.jp_query.specs.Nullness.Gone.{relations};
-ghost use Rattle.jp_query.specs.TreeExamples.{schema, col, one, equals, test, product, sum, coalesce, placeholder, exists, and, a, b, all, a_with_b, select, inner_select};
+ghost use Rattle.jp_query.specs.TreeExamples.{some_tables, number_of, ordered_by_itself, schema, col, one, equals, test, product, sum, coalesce, placeholder, exists, and, a, b, all, a_with_b, select, inner_select};
 
 /// Laws: the parts of small trees.
 #[tactic(auto, using(crate::proofs::TreeRules::folds))]
@@ -51,5 +53,16 @@ pub fn worked_nullness()
     ensures coalesce { rejects (relations 2) (equals (coalesce (col 1 0) one) (col 0 0) ∷ []) ≡ false }
     ensures placeholder { (surely_of (relations 6) (placeholder one 2)).null ≡ true }
     ensures placeholder_in_part { (surely_of (relations 2) (placeholder one 6)).null ≡ false }
+    ensures relation_alone { rejects_relation (equals (col 0 0) (col 1 1) ∷ []) 1 ≡ true }
     ensures forced { forced_null (and (test is.Null (col 1 1)) (test is.NotNull (col 0 0)) ∷ []) ≡ (1, 1) ∷ [] }
+{}
+
+/// Laws: which small tables belong to a schema, and which small queries have their sublinks where a fresh one may.
+#[tactic(auto, using(crate::proofs::TreeRules::folds))]
+pub fn worked_freshness()
+    ensures tables { Belong schema some_tables }
+    ensures one_table_short { ¬ Belong schema (None ∷ []) }
+    ensures sublinks { map number_of (sublinks_in (select (exists inner_select) a [])) ≡ 1 ∷ [] }
+    ensures copy_in_order { (places_of (ordered_by_itself (exists inner_select))).elsewhere ≡ true }
+    ensures copy_in_where { (places_of (select one a (exists inner_select ∷ exists inner_select ∷ []))).elsewhere ≡ false }
 {}
