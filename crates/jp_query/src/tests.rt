@@ -5,40 +5,34 @@ use std::test::Fail;
 
 #[test]
 fn expressions_are_copied_with_ample_memory(rt: HostRuntime) -> Result<(), Fail> {
-    let literal = Expr::Lit(Value::Num(7), Ty::Number);
-    let copy = literal.copy(rt.alloc())?;
-    assert!(rt; matches!(copy, Expr::Lit(Value::Num(7), Ty::Number)));
+    let mut members = Items::new(rt.alloc());
+    members.push(Expr::Lit(Value::Bool(true), Ty::Boolean))?;
+    let copy = Expr::And(members).copy(rt.alloc())?;
+    assert!(rt; matches!(copy, Expr::And(_)));
     Ok(())
 }
 
 #[test]
-fn items_are_copied_with_ample_memory(rt: HostRuntime) -> Result<(), Fail> {
-    let order = Order {
-        expr: Expr::Lit(Value::Null, Ty::Text),
-        desc: true,
-        nulls_first: false,
-    };
-    let copy = order.copy(rt.alloc())?;
-    assert!(rt; copy.desc && !copy.nulls_first);
+fn outputs_are_copied_with_ample_memory(rt: HostRuntime) -> Result<(), Fail> {
     let output = Output {
         name: Txt::new(rt.alloc(), "id")?,
         ty: Ty::Text,
-        expr: copy.expr,
+        expr: Expr::Lit(Value::Null, Ty::Text),
     };
-    assert_eq!(rt; output.copy(rt.alloc())?.name.as_str(), "id");
+    let copy = output.copy(rt.alloc())?;
+    let order = Order {
+        expr: copy.expr,
+        desc: true,
+        nulls_first: false,
+    };
+    assert!(rt; order.copy(rt.alloc())?.desc);
     Ok(())
 }
 
 #[test]
-fn trees_are_copied_with_ample_memory(rt: HostRuntime) -> Result<(), Fail> {
-    let mut members = Items::new(rt.alloc());
-    members.push(JoinTree::Base {
-        rel: 0,
-        name: Txt::new(rt.alloc(), "a")?,
-        table: 0,
-    })?;
+fn queries_are_copied_with_ample_memory(rt: HostRuntime) -> Result<(), Fail> {
     let tree = JoinTree::From {
-        members,
+        members: Items::new(rt.alloc()),
         conds: Items::new(rt.alloc()),
     };
     let query = Query {
@@ -48,9 +42,7 @@ fn trees_are_copied_with_ample_memory(rt: HostRuntime) -> Result<(), Fail> {
         conds: Items::new(rt.alloc()),
         order: Items::new(rt.alloc()),
     };
-    let copy = query.copy(rt.alloc())?;
-    assert!(rt; copy.distinct);
-    assert!(rt; matches!(copy.tree, JoinTree::From { .. }));
+    assert!(rt; query.copy(rt.alloc())?.distinct);
     Ok(())
 }
 
