@@ -1,0 +1,14 @@
+pub mod Conditions
+pub mod Examples
+pub mod Freshness
+pub mod InWords
+pub mod Joins
+pub mod Layers
+pub mod Meaning
+pub mod Nullness
+pub mod Operators
+pub mod Parts
+pub mod Refs
+pub mod Scopes
+pub mod TreeExamples
+pub mod Typing
