@@ -1,3 +1,4 @@
+pub mod FirstFacts
 pub mod LoadingFacts
 pub mod NumberFacts
 pub mod RecordFacts

@@ -1,9 +1,8 @@
-ghost use Rattle.std.specs.Prelude.{◌≡◌, ◌≢◌, ◌<◌, ◌↔◌, [], All, IfOk, IsTrue, MatchResult, Ok, length, ⊤};
+ghost use Rattle.std.specs.Prelude.{◌≡◌, ◌≢◌, ◌<◌, ◌↔◌, [], All, Err, IfOk, IsTrue, None, Some, length};
 ghost use Rattle.std.specs.List.{slice_index_or};
 ghost use Rattle.jp_base.specs.declared.values.Ty.TheVariants as ty;
-ghost use Rattle.jp_catalog.specs.Reading.{catalogue_of};
 ghost use Rattle.jp_catalog.specs.Sound.{IsSound};
-ghost use Rattle.jp_table.specs.First.{IsFirstCatalog, IsFirstTable};
+ghost use Rattle.jp_table.specs.First.{IsFirstCatalog, IsFirstTable, first_catalogue};
 
 use jp_base::Ty;
 use jp_catalog::{Catalog, CatalogError, Columns, TableDef, read_catalog};
@@ -22,10 +21,10 @@ pub enum FirstError {
 /// The catalogue that a text says, where all its columns are numbers and it has no keys. It stands in place of
 /// `read_catalog` until the other tables can be loaded.
 pub fn read_first(alloc: Global, bytes: &[u8]) -> Result<Catalog, FirstError>
-    ensures catalog { IfOk result (λ catalog. catalogue_of bytes.now ≡ Ok catalog) }
+    ensures catalog { IfOk result (λ catalog. first_catalogue bytes.now ≡ Some catalog) }
+    ensures not_built { result ≡ Err FirstError.NotBuilt → first_catalogue bytes.now ≡ None }
     ensures sound { IfOk result IsSound }
     ensures first { IfOk result IsFirstCatalog }
-    ensures not_built { result ≡ Err FirstError.NotBuilt → MatchResult (catalogue_of bytes.now) (λ catalog. ¬ IsFirstCatalog catalog) (λ _. ⊤) }
 {
     let catalog = match read_catalog(alloc, bytes) {
         Ok(catalog) => catalog,

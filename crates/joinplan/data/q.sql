@@ -1,0 +1,1 @@
+SELECT id FROM a WHERE x > 10

@@ -1,0 +1,5 @@
+pub mod LineLemmas
+pub mod OutcomeLemmas
+pub mod ReadingLemmas
+pub mod RowLemmas
+pub mod WriterLemmas

@@ -1,0 +1,31 @@
+-- What is known of a refusal where no contents are told: the counts of faults show which file couldn't be read.
+use Rattle.std.specs.Prelude.{◌≡◌, ℕ, ◌⊎◌, List, Option, Some, None, Any}
+use Rattle.jp_io.specs.Files.{Rose}
+use Rattle.jp_catalog.specs.declared.types.Catalog.{Catalog}
+use Rattle.jp_table.specs.First.{first_catalogue}
+use Rattle.joinplan.specs.declared.refusal.Refusal.{Refusal}
+use Rattle.joinplan.specs.declared.refusal.Refusal.TheVariants as refusal
+use Rattle.joinplan.specs.Words.{RunWords}
+
+-- counts of faults, one for each name
+abbrev pub Counts : Type 0
+Counts = List ℕ → ℕ
+
+-- a refusal that reading may give: a fault is one of these names, and its count rose
+abbrev pub IsExplained : (List ℕ → Type 0) → Counts → Counts → Refusal → Type 0
+IsExplained MayBe before now refusal.Usage = ⊥
+IsExplained MayBe before now refusal.WriteFault = ⊥
+IsExplained MayBe before now (refusal.ReadFault name) = MayBe name × Rose (before name) (now name)
+IsExplained MayBe before now _ = Unit {0}
+
+abbrev pub IsTableFile : Catalog → List ℕ → Type 0
+IsTableFile catalog name = Any (λ table. table.1.file ≡ name) catalog.tables
+
+-- the file of a table of some catalogue
+abbrev pub IsSomeTableFile : List ℕ → Type 0
+IsSomeTableFile name = (bytes : List ℕ) × (catalog : Catalog) × (first_catalogue bytes ≡ Some catalog) × IsTableFile catalog name
+
+-- a name that the words give, or the file of a table
+abbrev pub MayBeRead : Option RunWords → List ℕ → Type 0
+MayBeRead None name = ⊥
+MayBeRead (Some words) name = (name ≡ words.catalogue) ⊎ ((name ≡ words.statement) ⊎ IsSomeTableFile name)

@@ -1,0 +1,13 @@
+pub mod Answers
+pub mod Faults
+pub mod Lines
+pub mod Meaning
+pub mod Outcomes
+pub mod Output
+pub mod Parts
+pub mod Readings
+pub mod Refusals
+pub mod Selections
+pub mod Views
+pub mod Words
+pub mod Writers

@@ -1,0 +1,74 @@
+-- What a status says. The answer is known where the contents of the files are told.
+use Rattle.std.specs.Prelude.{◌≡◌, ℕ, ◌<◌, ◌≤◌, ◌⊎◌, List, length, take, Option, Some, None, option_map, IfSome, IfOk, Result, Ok, Err, Contains}
+use Rattle.jp_io.specs.Sinks.{Rose, TookMore}
+use Rattle.joinplan.specs.declared.refusal.Refusal.{Refusal}
+use Rattle.joinplan.specs.declared.refusal.Refusal.TheVariants as refusal
+use Rattle.joinplan.specs.Answers.{answer_of}
+use Rattle.joinplan.specs.Faults.{Counts, MayBeRead}
+use Rattle.joinplan.specs.Readings.{Held, Reading}
+use Rattle.joinplan.specs.Lines.{TookLine}
+use Rattle.joinplan.specs.Refusals.{line_of, status_of}
+use Rattle.joinplan.specs.Words.{RunWords}
+
+abbrev pub Answer : Type 0
+Answer = Reading (List ℕ)
+
+abbrev pub answer_told : List (List ℕ) → Option Held → Option Answer
+answer_told words contents = option_map (answer_of words) contents
+
+-- the first refusal has this status
+abbrev pub Refuses : ℕ → Answer → Type 0
+Refuses status answer = (r : Refusal) × (answer.answer ≡ Err r) × (status_of r ≡ status)
+
+-- a fault of one of these files was counted
+abbrev pub FaultAmong : List (List ℕ) → Counts → Counts → Type 0
+FaultAmong names before now = (name : List ℕ) × Contains names name × Rose (before name) (now name)
+
+-- The status comes only where the first refusal has it, and it comes there, but that memory may be wanting,
+-- or a file that is read before may be at fault.
+pub record IsExactly (status : ℕ) (answer : Answer) (result : ℕ) (before now : Counts) : Type 0 where
+  pub only : result ≡ status → Refuses status answer
+  pub comes : Refuses status answer → (result ≡ status) ⊎ ((result ≡ 8) ⊎ ((result ≡ 6) × FaultAmong answer.names before now))
+
+abbrev pub ComesExactly : ℕ → Option Answer → ℕ → Counts → Counts → Type 0
+ComesExactly status told result before now = IfSome told (λ answer. IsExactly status answer result before now)
+
+-- a fault of a file that is read before any refusal; where the answer isn't known, of one that may be read
+abbrev pub FaultIn : Option Answer → Option RunWords → Counts → Counts → Type 0
+FaultIn (Some answer) words before now = FaultAmong answer.names before now
+FaultIn None words before now = (name : List ℕ) × MayBeRead words name × Rose (before name) (now name)
+
+-- these bytes are the output, where it is known
+abbrev pub IsOutput : Option Answer → List ℕ → Type 0
+IsOutput told bytes = IfSome told (λ answer. answer.answer ≡ Ok bytes)
+
+-- all of the output was taken
+pub record WroteAll (told : Option Answer) (before now : Option (List ℕ)) : Type 0 where
+  pub bytes : List ℕ
+  pub output : IsOutput told bytes
+  pub took : TookMore before bytes now
+
+-- the start of the output was taken
+pub record WrotePart (told : Option Answer) (before now : Option (List ℕ)) : Type 0 where
+  pub bytes : List ℕ
+  pub output : IsOutput told bytes
+  pub count : ℕ
+  pub short : count < length bytes
+  pub took : TookMore before (take count bytes) now
+
+-- the refusal behind a status: the first one, or a fault or want of memory before it
+abbrev pub IsCause : Answer → Refusal → Type 0
+IsCause answer refusal.Memory = Unit {0}
+IsCause answer (refusal.ReadFault name) = Contains answer.names name
+IsCause answer refusal.WriteFault = (bytes : List ℕ) × (answer.answer ≡ Ok bytes)
+IsCause answer other = answer.answer ≡ Err other
+
+abbrev pub NoFault : List (List ℕ) → Counts → Counts → Type 0
+NoFault names before now = (name : List ℕ) → Contains names name → ¬ Rose (before name) (now name)
+
+-- of the refusal behind a status the line was written
+pub record IsReported (told : Option Answer) (status : ℕ) (before now : Option (List ℕ)) (faults_before faults_now : ℕ) : Type 0 where
+  pub cause : Refusal
+  pub status_is : status_of cause ≡ status
+  pub first : IfSome told (λ answer. IsCause answer cause)
+  pub line : TookLine before now faults_before faults_now (line_of cause)

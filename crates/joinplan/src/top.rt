@@ -1,0 +1,50 @@
+ghost use Rattle.std.specs.Prelude.{◌≡◌, ◌≢◌, ◌≤◌, ◌⊎◌, ◌↔◌, ℕ, IfSome, IfOk, None, map, string_bytes};
+ghost use Rattle.jp_io.specs.Sinks.{Rose, TookMore};
+ghost use Rattle.joinplan.specs.Outcomes.{ComesExactly, FaultIn, IsReported, NoFault, WroteAll, WrotePart, answer_told};
+ghost use Rattle.joinplan.specs.Words.{run_words};
+
+use crate::answer::answer;
+use crate::refusal::Refusal;
+use jp_io::{Files, Sink, SinkError, write_all};
+use std::alloc::Global;
+
+/// Runs the command that the words after the program's name give, and answers the exit status. The output goes
+/// to `out`, and of a refusal one line to `err`.
+pub fn joinplan<F: Files, O: Sink, E: Sink>(
+    alloc: Global,
+    words: &[String],
+    files: &mut F,
+    out: &mut O,
+    err: &mut E,
+) -> u8
+    // The status, by its cause.
+    ensures range { result ≤ 8 }
+    ensures usage { (result ≡ 1) ↔ (run_words (map string_bytes words.now) ≡ None) }
+    ensures catalogue { ComesExactly 2 (answer_told (map string_bytes words.now) (F.contents files.old)) result (F.faults files.old) (F.faults files.new) }
+    ensures table { ComesExactly 3 (answer_told (map string_bytes words.now) (F.contents files.old)) result (F.faults files.old) (F.faults files.new) }
+    ensures statement { ComesExactly 4 (answer_told (map string_bytes words.now) (F.contents files.old)) result (F.faults files.old) (F.faults files.new) }
+    ensures limit { ComesExactly 5 (answer_told (map string_bytes words.now) (F.contents files.old)) result (F.faults files.old) (F.faults files.new) }
+    ensures read_fault { result ≡ 6 → FaultIn (answer_told (map string_bytes words.now) (F.contents files.old)) (run_words (map string_bytes words.now)) (F.faults files.old) (F.faults files.new) }
+    ensures write_fault { result ≡ 7 → Rose (O.faults out.old) (O.faults out.new) }
+    ensures complete { IfSome (answer_told (map string_bytes words.now) (F.contents files.old)) (λ answer. IfOk answer.answer (λ bytes.
+        NoFault answer.names (F.faults files.old) (F.faults files.new) → ¬ Rose (O.faults out.old) (O.faults out.new)
+        → ((result ≡ 0) × TookMore (O.taken out.old) bytes (O.taken out.new)) ⊎ (result ≡ 8))) }
+
+    // What the sinks took.
+    ensures printed { result ≡ 0 → WroteAll (answer_told (map string_bytes words.now) (F.contents files.old)) (O.taken out.old) (O.taken out.new) }
+    ensures prefix { result ≡ 7 → WrotePart (answer_told (map string_bytes words.now) (F.contents files.old)) (O.taken out.old) (O.taken out.new) }
+    ensures untouched { result ≢ 0 → result ≢ 7 → out.new ≡ out.old }
+    ensures silent { result ≡ 0 → err.new ≡ err.old }
+    ensures line { result ≢ 0 → IsReported (answer_told (map string_bytes words.now) (F.contents files.old)) result (E.taken err.old) (E.taken err.new) (E.faults err.old) (E.faults err.new) }
+
+    // What the files hold stays.
+    ensures same { F.contents files.new ≡ F.contents files.old }
+{
+    match answer(alloc, words, files) {
+        Ok(bytes) => match write_all(out, bytes.as_slice()) {
+            Ok(()) => 0,
+            Err(SinkError::Failed(_)) => Refusal::WriteFault.report(err),
+        },
+        Err(refusal) => refusal.report(err),
+    }
+}
