@@ -1,3 +1,4 @@
+pub mod HeadlineLemmas
 pub mod LineLemmas
 pub mod OutcomeLemmas
 pub mod ReadingLemmas

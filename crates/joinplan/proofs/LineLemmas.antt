@@ -1,5 +1,5 @@
 -- A line that is written in pieces.
-use Rattle.std.proofs.Common.{◌≡◌, ℕ, ◌+◌, ◌-◌, ◌<◌, ◌≤◌, ◌⊎◌, inl, inr, List, ◌++◌, length, take, Option, refl, sym, ◌∙◌, ap, subst, arith, length-append}
+use Rattle.std.proofs.Common.{◌≡◌, ℕ, ◌+◌, ◌<◌, ◌≤◌, inl, inr, List, ◌++◌, length, take, Option, refl, sym, subst, arith, length-append}
 use Rattle.std.proofs.lemmas.List.{take-append-le}
 use Rattle.std.proofs.Math.Seq.{take-append-add}
 use Rattle.std.specs.Prelude.{OnOk, OnErr, Result, Ok, Err}
@@ -11,15 +11,15 @@ use Rattle.joinplan.specs.Lines.{TookLine}
 -- a piece that stopped early is the start of any line that begins with it
 pub took-early : (before now : Option (List ℕ)) (a b : ℕ) (piece more : List ℕ) (n : ℕ) → n < length piece → TookMore before (take n piece) now → Rose a b → TookLine before now a b (piece ++ more)
 took-early before now a b piece more n short took rose =
-  let below : n ≤ length piece = omega (arith, short) in
-  inr (n, omega (arith, length-append piece more, short), subst (λ bytes. TookMore before bytes now) (sym (take-append-le n piece more below)) took, rose)
+    let below : n ≤ length piece = omega (arith, short) in
+    inr (n, omega (arith, length-append piece more, short), subst (λ bytes. TookMore before bytes now) (sym (take-append-le n piece more below)) took, rose)
 
 -- a whole piece, and then what was taken of the rest
 pub took-then : (before between now : Option (List ℕ)) (a b c : ℕ) (piece more : List ℕ) → TookMore before piece between → a ≤ b → TookLine between now b c more → TookLine before now a c (piece ++ more)
 took-then before between now a b c piece more first grows (inl all) = inl (TookMore-twice before piece between more now first all)
 took-then before between now a b c piece more first grows (inr part) =
-  let (n, short, took, rose) = part in
-  inr (length piece + n, omega (arith, length-append piece more, short), subst (λ bytes. TookMore before bytes now) (sym (take-append-add piece more n)) (TookMore-twice before piece between (take n more) now first took), omega (arith, rose, grows))
+    let (n, short, took, rose) = part in
+    inr (length piece + n, omega (arith, length-append piece more, short), subst (λ bytes. TookMore before bytes now) (sym (take-append-add piece more n)) (TookMore-twice before piece between (take n more) now first took), omega (arith, rose, grows))
 
 abbrev pub failed : SinkError → Result (Unit {0}) SinkError
 failed e = Err e

@@ -1,5 +1,5 @@
 -- What the answer says of the output.
-use Rattle.std.proofs.Common.{◌≡◌, ℕ, ◌<◌, List, length, take, Option, Some, None, Result, Ok, Err, Vec, Global, refl}
+use Rattle.std.proofs.Common.{◌≡◌, ℕ, ◌<◌, List, length, take, Option, Some, None, Ok, Err, Vec, Global, refl}
 use Rattle.std.specs.Prelude.{IfSome}
 use Rattle.jp_io.specs.Sinks.{TookMore}
 use Rattle.jp_io.specs.declared.writing.SinkError.{SinkError}

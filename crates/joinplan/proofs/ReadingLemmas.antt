@@ -1,10 +1,9 @@
 -- Readings in a row, and what a read of one file says of them.
-use Rattle.std.proofs.Common.{◌≡◌, ℕ, ◌<◌, ◌≤◌, ◌⊎◌, inl, inr, List, [], ◌∷◌, ◌++◌, length, Option, Some, None, Result, Ok, Err, Vec, Global, refl, sym, ◌∙◌, ap, subst, arith, cond}
+use Rattle.std.proofs.Common.{◌≡◌, ℕ, ◌≤◌, inl, inr, List, [], ◌∷◌, ◌++◌, length, Option, Some, None, Result, Ok, Err, Vec, Global, refl, sym, ◌∙◌, ap, subst, arith, cond}
 use Rattle.std.specs.Prelude.{Contains, IfErr}
 use Rattle.std.proofs.lemmas.Bool.{le-leb, lt-leb}
 use Rattle.std.proofs.lemmas.List.Elements.{Contains-append_left, Contains-append_right}
 use Rattle.jp_io.specs.Files.{Rose, WholeIfThere, ReadsWhole}
-use Rattle.jp_io.specs.declared.reading.FileError.{FileError}
 use Rattle.jp_io.specs.declared.reading.FileError.TheVariants as file_error
 use Rattle.joinplan.specs.declared.refusal.Refusal.{Refusal}
 use Rattle.joinplan.specs.declared.refusal.Refusal.TheVariants as refusal
@@ -32,8 +31,8 @@ agrees_widened view names rest (Err r) h = widened names rest r h
 
 agrees_then : {X A B : Type 0} (view : X → B) (first : Reading A) (next : A → Reading B) (value : A) (result : Result X Refusal) → first.answer ≡ Ok value → Agrees view result (next value) → Agrees view result (and_then first next)
 agrees_then {X} {A} {B} view first next value result e h =
-  let P : Result A Refusal → Type 0 = λ answer. Agrees view result (after first.names answer next) in
-  subst P (sym e) (agrees_widened view first.names (next value) result h)
+    let P : Result A Refusal → Type 0 = λ answer. Agrees view result (after first.names answer next) in
+    subst P (sym e) (agrees_widened view first.names (next value) result h)
 
 -- the names of the first part are among those of the whole
 first_names : {A B : Type 0} (names : List (List ℕ)) (answer : Result A Refusal) (next : A → Reading B) (name : List ℕ) → Contains names name → Contains (after names answer next).names name
@@ -42,8 +41,8 @@ first_names names (Err r) next name h = h
 
 stopped_at : {A B : Type 0} (first : Reading A) (next : A → Reading B) (r : Refusal) → first.answer ≡ Err r → (and_then first next).answer ≡ Err r
 stopped_at {A} {B} first next r e =
-  let P : Result A Refusal → Type 0 = λ answer. (after first.names answer next).answer ≡ Err r in
-  subst P (sym e) refl
+    let P : Result A Refusal → Type 0 = λ answer. (after first.names answer next).answer ≡ Err r in
+    subst P (sym e) refl
 
 -- a refusal of the first part is one of the whole
 agrees_stop : {A B : Type 0} (first : Reading A) (next : A → Reading B) (r : Refusal) → AgreesRefused r first → AgreesRefused r (and_then first next)

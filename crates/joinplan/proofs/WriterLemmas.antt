@@ -35,9 +35,9 @@ same_row fields = ap₂ (λ body blank. body ++ ((if blank then 34 ∷ 34 ∷ []
 -- the text of one more row
 pub text_more : {X : Type 0} (f : X → List ℕ) (text : List ℕ) (rows : List X) (i : ℕ) (row : X) → i < length rows → row ≡ get_or rows i row → (text ++ flat_map f (take i rows)) ++ f row ≡ text ++ flat_map f (take (i + 1) rows)
 text_more f text rows i row below is =
-  let more : take (i + 1) rows ≡ take i rows ++ row ∷ [] = take_more rows i row below ∙ ap (λ x. take i rows ++ x ∷ []) (sym is) in
-  let last : flat_map f (row ∷ []) ≡ f row = flat_map-cons f row [] ∙ append-nil (f row) in
-  append_assoc text (flat_map f (take i rows)) (f row) ∙ ap (λ ys. text ++ ys) (ap (λ ys. flat_map f (take i rows) ++ ys) (sym last) ∙ sym (flat_map-append f (take i rows) (row ∷ [])) ∙ ap (flat_map f) (sym more))
+    let more : take (i + 1) rows ≡ take i rows ++ row ∷ [] = take_more rows i row below ∙ ap (λ x. take i rows ++ x ∷ []) (sym is) in
+    let last : flat_map f (row ∷ []) ≡ f row = flat_map-cons f row [] ∙ append-nil (f row) in
+    append_assoc text (flat_map f (take i rows)) (f row) ∙ ap (λ ys. text ++ ys) (ap (λ ys. flat_map f (take i rows) ++ ys) (sym last) ∙ sym (flat_map-append f (take i rows) (row ∷ [])) ∙ ap (flat_map f) (sym more))
 
 -- the text of all rows
 pub text_all : {X : Type 0} (f : X → List ℕ) (text : List ℕ) (rows : List X) (i : ℕ) → length rows ≤ i → text ++ flat_map f (take i rows) ≡ text ++ flat_map f rows

@@ -1,6 +1,6 @@
 -- The answer to the words, where the contents of the files are told: the first refusal, or the output.
 -- The order: words; catalogue, its size, its text; statement, its size, its text; table, its size, its text.
-use Rattle.std.specs.Prelude.{ℕ, List, [], ◌∷◌, Option, Some, None, option_and_then, Result, Ok, Err}
+use Rattle.std.specs.Prelude.{ℕ, List, [], ◌∷◌, Option, Some, None, Result, Ok, Err}
 use Rattle.jp_base.specs.declared.values.Value.{Value}
 use Rattle.jp_catalog.specs.declared.types.Catalog.{Catalog}
 use Rattle.jp_parse.specs.First.{statement_of}

@@ -1,5 +1,6 @@
 pub mod Answers
 pub mod Faults
+pub mod Headline
 pub mod Lines
 pub mod Meaning
 pub mod Outcomes

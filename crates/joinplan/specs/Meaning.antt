@@ -11,7 +11,6 @@ use Rattle.jp_base.specs.Truth.{truth_of_bool}
 use Rattle.jp_base.specs.Values.{order_of, IsComparable}
 use Rattle.jp_parse.specs.declared.tree.CmpWord.{CmpWord}
 use Rattle.jp_parse.specs.declared.tree.CmpWord.TheVariants.{Eq, Ne, Lt, Le, Gt, Ge}
-use Rattle.joinplan.specs.Parts.{Comparison}
 use Rattle.joinplan.specs.Selections.{Selection}
 
 abbrev pub Row : Type 0

@@ -1,5 +1,5 @@
 -- What a status says. The answer is known where the contents of the files are told.
-use Rattle.std.specs.Prelude.{◌≡◌, ℕ, ◌<◌, ◌≤◌, ◌⊎◌, List, length, take, Option, Some, None, option_map, IfSome, IfOk, Result, Ok, Err, Contains}
+use Rattle.std.specs.Prelude.{◌≡◌, ℕ, ◌<◌, ◌⊎◌, List, length, take, Option, Some, None, option_map, IfSome, Ok, Err, Contains}
 use Rattle.jp_io.specs.Sinks.{Rose, TookMore}
 use Rattle.joinplan.specs.declared.refusal.Refusal.{Refusal}
 use Rattle.joinplan.specs.declared.refusal.Refusal.TheVariants as refusal

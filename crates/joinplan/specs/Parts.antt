@@ -61,4 +61,4 @@ comparison_of None = None
 abbrev pub parts_of : Stmt → Option Parts
 parts_of stmt =
     option_and_then (λ label. option_and_then (λ table. option_map (λ cond. record { label = label; table = table; cond = cond })
-        (comparison_of (out-Select stmt.select).cond)) (table_of (out-Select stmt.select).items)) (label_of (out-Select stmt.select).targets)
+    (comparison_of (out-Select stmt.select).cond)) (table_of (out-Select stmt.select).items)) (label_of (out-Select stmt.select).targets)

@@ -17,7 +17,7 @@ pub record Selection : Type 0 where
 abbrev pub in_table : Parts → TableDef → Option Selection
 in_table parts def =
     option_and_then (λ column. option_map (λ tested. record { parts = parts; def = def; column = column; tested = tested })
-        (place_of parts.cond.tested def.columns)) (place_of parts.label def.columns)
+    (place_of parts.cond.tested def.columns)) (place_of parts.label def.columns)
 
 -- None where the catalogue doesn't have the table or the table one of the columns
 abbrev pub in_catalogue : Catalog → Parts → Option Selection

@@ -8,15 +8,15 @@ mod parts;
 mod reading;
 mod refusal;
 mod selection;
+#[cfg(test)]
+mod tests;
 mod top;
 mod words;
 
-pub use top::joinplan;
-
 use jp_io::{RealFiles, RealSink};
-use std::env;
-use std::io;
 use std::process::ExitCode;
+use std::{env, io};
+pub use top::joinplan;
 
 /// The words after the program's name; none where one of them isn't UTF-8.
 fn command_words(rt: &HostRuntime) -> io::Result<Vec<String>> {

@@ -52,7 +52,13 @@ fn table(items: &[FromItem]) -> Option<&str>
     ensures { option_map (λ name. name.now) result ≡ table_of items.now }
 {
     match items {
-        [FromItem::Table { name, alias: None, .. }] => Some(name.as_str()),
+        [
+            FromItem::Table {
+                name,
+                alias: None,
+                ..
+            },
+        ] => Some(name.as_str()),
         _ => None,
     }
 }
@@ -61,7 +67,14 @@ fn comparison_of(cond: &Option<Ast>) -> Option<Comparison<'_>>
     ensures { option_map comparison_view result ≡ comparison_of cond.now }
 {
     match cond {
-        Some(Ast::Compare { op, left, right, .. }) => {
+        Some(
+            Ast::Compare {
+                op,
+                left,
+                right,
+                ..
+            },
+        ) => {
             let tested = column_name(left.get())?;
             let number = number(right.get())?;
             Some(Comparison {

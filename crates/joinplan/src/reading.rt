@@ -84,7 +84,11 @@ fn data_refused(alloc: Global, table: &str) -> Refusal
 }
 
 /// Reads the catalogue.
-pub fn read_catalogue<F: Files>(alloc: Global, files: &mut F, name: &str) -> Result<Catalog, Refusal>
+pub fn read_catalogue<F: Files>(
+    alloc: Global,
+    files: &mut F,
+    name: &str,
+) -> Result<Catalog, Refusal>
     ensures same { F.contents files.new ≡ F.contents files.old }
     ensures kept { NoneFalls (F.faults files.old) (F.faults files.new) }
     ensures told { AgreesTold (λ c. c) result (F.contents files.old) (λ held. catalogue_in held name.now) }
@@ -117,7 +121,11 @@ pub fn read_statement<F: Files>(alloc: Global, files: &mut F, name: &str) -> Res
 }
 
 /// Reads and loads the table of a selection.
-pub fn read_table<F: Files>(alloc: Global, files: &mut F, selection: &Selection) -> Result<Table, Refusal>
+pub fn read_table<F: Files>(
+    alloc: Global,
+    files: &mut F,
+    selection: &Selection,
+) -> Result<Table, Refusal>
     requires first { IsFirstTable selection.now.def.now }
     requires column { selection.now.column < length selection.now.def.now.columns }
     requires tested { selection.now.tested < length selection.now.def.now.columns }

@@ -28,7 +28,8 @@ pub enum Refusal {
     Memory,
 }
 
-const USAGE: &str = "usage: joinplan run CATALOG STATEMENT; explain [--verbose] CATALOG STATEMENT; check CATALOG; generate SEED SIZE\n";
+const USAGE: &str =
+    "usage: joinplan run CATALOG STATEMENT; explain [--verbose] CATALOG STATEMENT; check CATALOG; generate SEED SIZE\n";
 
 /// A line in three pieces, so that it takes no memory.
 #[derive(Clone, Copy)]

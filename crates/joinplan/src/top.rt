@@ -1,5 +1,6 @@
 ghost use Rattle.std.specs.Prelude.{◌≡◌, ◌≢◌, ◌≤◌, ◌⊎◌, ◌↔◌, ℕ, IfSome, IfOk, None, map, string_bytes};
 ghost use Rattle.jp_io.specs.Sinks.{Rose, TookMore};
+ghost use Rattle.joinplan.specs.Headline.{PrintsAnswer};
 ghost use Rattle.joinplan.specs.Outcomes.{ComesExactly, FaultIn, IsReported, NoFault, WroteAll, WrotePart, answer_told};
 ghost use Rattle.joinplan.specs.Words.{run_words};
 
@@ -30,7 +31,8 @@ pub fn joinplan<F: Files, O: Sink, E: Sink>(
         NoFault answer.names (F.faults files.old) (F.faults files.new) → ¬ Rose (O.faults out.old) (O.faults out.new)
         → ((result ≡ 0) × TookMore (O.taken out.old) bytes (O.taken out.new)) ⊎ (result ≡ 8))) }
 
-    // What the sinks took.
+    // What the sinks took: of a status 0, where the contents of the files are told, the statement's meaning.
+    ensures headline { result ≡ 0 → PrintsAnswer (F.contents files.old) (map string_bytes words.now) (O.taken out.old) (O.taken out.new) }
     ensures printed { result ≡ 0 → WroteAll (answer_told (map string_bytes words.now) (F.contents files.old)) (O.taken out.old) (O.taken out.new) }
     ensures prefix { result ≡ 7 → WrotePart (answer_told (map string_bytes words.now) (F.contents files.old)) (O.taken out.old) (O.taken out.new) }
     ensures untouched { result ≢ 0 → result ≢ 7 → out.new ≡ out.old }

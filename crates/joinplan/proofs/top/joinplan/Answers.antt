@@ -1,24 +1,32 @@
-use Rattle.std.proofs.Common.{◌≡◌, map, subst, sym}
+use Rattle.std.proofs.Common.{map, subst, sym}
 use Rattle.std.specs.Prelude.{string_bytes}
+use Rattle.jp_io.specs.Sinks.{TookMore}
 use Rattle.joinplan.specs.declared.refusal.Refusal.TheVariants as refusal
 use Rattle.joinplan.specs.Outcomes.{IsOutput, answer_told}
+use Rattle.joinplan.proofs.HeadlineLemmas.{prints_answer}
 use Rattle.joinplan.proofs.OutcomeLemmas.{output_told, write_cause, wrote_part}
 use Rattle.joinplan.proofs.top.joinplan.Goals as goal
 
 pub returns-in-Ok-clause-prefix : goal.returns-in-Ok-clause-prefix
 returns-in-Ok-clause-prefix g c = λ _.
-  let words = map string_bytes c.args.words.now in
-  let contents = g.F.Files.contents c.args.files.now in
-  let output = subst (IsOutput (answer_told words contents)) (sym c.as_slice.ensures.value) (output_told words contents c.in-Ok.bytes c.in-Ok.ensures.told) in
-  wrote_part (answer_told words contents) (g.O.Sink.taken c.args.out.now) (g.O.Sink.taken c.write_all.new.sink) c.as_slice.result.now c.in-Err-Failed.field-0 output c.in-Err-Failed.ensures.part
+    let words = map string_bytes c.args.words.now in
+    let contents = g.F.Files.contents c.args.files.now in
+    let output = subst (IsOutput (answer_told words contents)) (sym c.as_slice.ensures.value) (output_told words contents c.in-Ok.bytes c.in-Ok.ensures.told) in
+    wrote_part (answer_told words contents) (g.O.Sink.taken c.args.out.now) (g.O.Sink.taken c.write_all.new.sink) c.as_slice.result.now c.in-Err-Failed.field-0 output c.in-Err-Failed.ensures.part
 
 pub returns-in-Ok-clause-line : goal.returns-in-Ok-clause-line
 returns-in-Ok-clause-line g c = λ _.
-  let words = map string_bytes c.args.words.now in
-  let contents = g.F.Files.contents c.args.files.now in
-  record {
-    cause = refusal.WriteFault;
-    status_is = sym c.report.ensures.status;
-    first = write_cause (answer_told words contents) c.in-Ok.bytes.items (output_told words contents c.in-Ok.bytes c.in-Ok.ensures.told);
-    line = c.report.ensures.line;
-  }
+    let words = map string_bytes c.args.words.now in
+    let contents = g.F.Files.contents c.args.files.now in
+    record {
+      cause = refusal.WriteFault;
+      status_is = sym c.report.ensures.status;
+      first = write_cause (answer_told words contents) c.in-Ok.bytes.items (output_told words contents c.in-Ok.bytes c.in-Ok.ensures.told);
+      line = c.report.ensures.line;
+    }
+
+pub returns-in-Ok-write_all-clause-headline : goal.returns-in-Ok-write_all-clause-headline
+returns-in-Ok-write_all-clause-headline g c = λ _.
+    let words = map string_bytes c.args.words.now in
+    let contents = g.F.Files.contents c.args.files.now in
+    prints_answer words contents (g.O.Sink.taken c.args.out.now) (g.O.Sink.taken c.write_all.new.sink) c.in-Ok.bytes c.in-Ok.ensures.told (subst (λ bytes. TookMore (g.O.Sink.taken c.args.out.now) bytes (g.O.Sink.taken c.write_all.new.sink)) c.as_slice.ensures.value c.in-Ok-write_all.ensures.all)
