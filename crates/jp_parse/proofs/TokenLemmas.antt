@@ -5,7 +5,7 @@ use Rattle.std.proofs.lemmas.List.Sums.{fold-append}
 use Rattle.std.proofs.lemmas.Bool.Decides.{nat_tests}
 use Rattle.jp_parse.specs.declared.tokens.Token.{Token}
 use Rattle.jp_parse.specs.declared.tokens.What.{What}
-use Rattle.jp_parse.specs.Chars.{is_white}
+use Rattle.jp_lex.specs.Chars.{is_white}
 use Rattle.jp_parse.specs.Tokens.{Cut, token_of, tokens_from, placed, behind, with_digit, number_of_digits, limited}
 
 -- ---- tokens

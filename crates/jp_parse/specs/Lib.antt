@@ -1,4 +1,3 @@
-pub mod Chars
 pub mod First
 pub mod Tokens
 pub mod Words

@@ -6,7 +6,7 @@ use Rattle.jp_parse.specs.declared.words.Word.{Word}
 use Rattle.jp_parse.specs.declared.tokens.Token.{Token}
 use Rattle.jp_parse.specs.declared.tokens.What.{What}
 use Rattle.jp_parse.specs.declared.tokens.What.TheVariants as what
-use Rattle.jp_parse.specs.Chars.{is_white, is_digit, is_letter, is_word_byte, lower}
+use Rattle.jp_lex.specs.Chars.{is_white, is_digit, is_letter, is_word_byte, lower}
 use Rattle.jp_parse.specs.Words.{reserved_word}
 
 -- a token without its place, and how many bytes it takes

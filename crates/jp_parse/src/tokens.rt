@@ -2,7 +2,7 @@
 
 ghost use Rattle.std.specs.Prelude.{◌≡◌, ◌<◌, ◌≤◌, ◌^◌, ℕ, All, length, map, drop, slice_index, IfOk, IfSome, true, false};
 ghost use Rattle.std.specs.List.{prefix_len, AllPass};
-ghost use Rattle.jp_parse.specs.Chars as chars;
+ghost use Rattle.jp_lex.specs.Chars as chars;
 ghost use Rattle.jp_parse.specs.Tokens as spec;
 ghost use Rattle.jp_parse.specs.First.{Agrees};
 

@@ -1,6 +1,6 @@
 use Rattle.std.proofs.Common.{◌≡◌, map, take}
 use Rattle.std.specs.String.{string_bytes}
-use Rattle.jp_parse.specs.Chars.{lower}
+use Rattle.jp_lex.specs.Chars.{lower}
 use Rattle.jp_parse.proofs.tokens.folded.Given as goal
 
 abbrev pub invariant-loop-byte : goal.invariant-loop-byte

@@ -1,4 +1,4 @@
-use Rattle.jp_parse.specs.Chars.{is_word_byte, is_digit}
+use Rattle.jp_lex.specs.Chars.{is_word_byte, is_digit}
 use Rattle.jp_parse.proofs.Prefixes.{prefix_passes}
 use Rattle.jp_parse.proofs.tokens.token_at_front.Goals as goal
 

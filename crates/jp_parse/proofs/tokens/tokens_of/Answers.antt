@@ -1,5 +1,5 @@
 use Rattle.std.proofs.Common.{◌≡◌, true, false, get_or, sym, ◌∙◌, ap, arith}
-use Rattle.jp_parse.specs.Chars.{is_white}
+use Rattle.jp_lex.specs.Chars.{is_white}
 use Rattle.jp_parse.proofs.Answers.{passed_on}
 use Rattle.jp_parse.proofs.TokenLemmas.{with_front, past_white, past_token, no_token, at_end}
 use Rattle.std.proofs.lemmas.List.{take_rest}

@@ -1,6 +1,6 @@
 use Rattle.std.proofs.Common.{◌≡◌, ◌+◌, ◌-◌, ◌≤◌, length, drop}
 use Rattle.std.specs.List.{prefix_len}
-use Rattle.jp_parse.specs.Chars.{is_word_byte}
+use Rattle.jp_lex.specs.Chars.{is_word_byte}
 use Rattle.jp_parse.proofs.tokens.word_len.Given as goal
 
 abbrev pub invariant-loop-end : goal.invariant-loop-end
