@@ -1,14 +1,20 @@
 -- What the answer says of the output.
-use Rattle.std.proofs.Common.{◌≡◌, ℕ, ◌<◌, List, length, take, Option, Some, None, Ok, Err, Vec, Global, refl}
+use Rattle.std.proofs.Common.{◌≡◌, ◌≢◌, subst, sym, ℕ, ◌<◌, List, length, take, Option, Some, None, Result, Ok, Err, Vec, Global, refl}
 use Rattle.std.specs.Prelude.{IfSome}
 use Rattle.jp_io.specs.Sinks.{TookMore}
 use Rattle.jp_io.specs.declared.writing.SinkError.{SinkError}
 use Rattle.jp_io.specs.declared.writing.SinkError.TheVariants.{Failed}
+use Rattle.joinplan.specs.declared.refusal.Refusal.{Refusal}
 use Rattle.joinplan.specs.declared.refusal.Refusal.TheVariants as refusal
 use Rattle.joinplan.specs.Answers.{answer_of}
-use Rattle.joinplan.specs.Outcomes.{Answer, IsCause, IsOutput, WrotePart, answer_told}
+use Rattle.joinplan.specs.Faults.{Counts, IsExplained, MayBeRead}
+use Rattle.joinplan.specs.Outcomes.{Answer, IsCause, IsCounted, IsOutput, WrotePart, answer_told}
+use Rattle.joinplan.specs.Words.{RunWords}
 use Rattle.joinplan.specs.Readings.{AgreesTold, Held}
 use Rattle.joinplan.proofs.LineLemmas.{failed}
+
+abbrev refused : Refusal → Result (Vec ℕ Global) Refusal
+refused r = Err r
 
 pub output_told : (words : List (List ℕ)) (contents : Option Held) (v : Vec ℕ Global) → AgreesTold (λ (w : Vec ℕ Global). w.items) (Ok v) contents (answer_of words) → IsOutput (answer_told words contents) v.items
 output_told words None v h = tt
@@ -21,3 +27,31 @@ write_cause (Some answer) bytes h = (bytes, h)
 pub wrote_part : (told : Option Answer) (before now : Option (List ℕ)) (bytes : List ℕ) (e : SinkError) → IsOutput told bytes →
     ((n : ℕ) → failed e ≡ Err (Failed n) → (n < length bytes) × TookMore before (take n bytes) now) → WrotePart told before now
 wrote_part told before now bytes (Failed n) output part = record { bytes = bytes; output = output; count = n; short = (part n refl).0; took = (part n refl).1 }
+
+explained_counted : (May : List ℕ → Type 0) (before now : Counts) (r : Refusal) → IsExplained May before now r → IsCounted before now r
+explained_counted May before now (refusal.ReadFault name) h = h.1
+explained_counted May before now refusal.Usage h = tt
+explained_counted May before now refusal.WriteFault h = tt
+explained_counted May before now refusal.Memory h = tt
+explained_counted May before now refusal.Catalogue h = tt
+explained_counted May before now (refusal.Data table) h = tt
+explained_counted May before now refusal.NotBuilt h = tt
+explained_counted May before now (refusal.FileTooLarge name) h = tt
+explained_counted May before now refusal.StatementTooLarge h = tt
+
+-- words without a form are refused for that alone, and of any other words a refusal is explained
+pub counted : (command : Option RunWords) (before now : Counts) (r : Refusal) → (command ≢ None → IsExplained (MayBeRead command) before now r) → (command ≡ None → refused r ≡ refused refusal.Usage) → IsCounted before now r
+counted (Some words) before now r explained usage = explained_counted (MayBeRead (Some words)) before now r (explained (λ e. cc))
+counted None before now r explained usage = let is : r ≡ refusal.Usage = let e = usage refl in cc in subst (IsCounted before now) (sym is) tt
+
+pub refusal_told : (words : List (List ℕ)) (contents : Option Held) (r : Refusal) → AgreesTold (λ (w : Vec ℕ Global). w.items) (Err r) contents (answer_of words) → r ≢ refusal.WriteFault → IfSome (answer_told words contents) (λ answer. IsCause answer r)
+refusal_told words None r h other = tt
+refusal_told words (Some held) refusal.WriteFault h other = absurd (other refl)
+refusal_told words (Some held) (refusal.ReadFault name) h other = h
+refusal_told words (Some held) refusal.Usage h other = h
+refusal_told words (Some held) refusal.Memory h other = tt
+refusal_told words (Some held) refusal.Catalogue h other = h
+refusal_told words (Some held) (refusal.Data table) h other = h
+refusal_told words (Some held) refusal.NotBuilt h other = h
+refusal_told words (Some held) (refusal.FileTooLarge name) h other = h
+refusal_told words (Some held) refusal.StatementTooLarge h other = h

@@ -66,9 +66,22 @@ IsCause answer other = answer.answer ≡ Err other
 abbrev pub NoFault : List (List ℕ) → Counts → Counts → Type 0
 NoFault names before now = (name : List ℕ) → Contains names name → ¬ Rose (before name) (now name)
 
+-- of a file that couldn't be read a fault was counted
+abbrev pub IsCounted : Counts → Counts → Refusal → Type 0
+IsCounted before now (refusal.ReadFault name) = Rose (before name) (now name)
+IsCounted before now _ = Unit {0}
+
+-- the counts of a sink's and of the files' faults before and after
+pub record Faults : Type 0 where
+  pub sink_before : ℕ
+  pub sink_now : ℕ
+  pub files_before : Counts
+  pub files_now : Counts
+
 -- of the refusal behind a status the line was written
-pub record IsReported (told : Option Answer) (status : ℕ) (before now : Option (List ℕ)) (faults_before faults_now : ℕ) : Type 0 where
+pub record IsReported (told : Option Answer) (status : ℕ) (before now : Option (List ℕ)) (faults : Faults) : Type 0 where
   pub cause : Refusal
   pub status_is : status_of cause ≡ status
   pub first : IfSome told (λ answer. IsCause answer cause)
-  pub line : TookLine before now faults_before faults_now (line_of cause)
+  pub counted : IsCounted faults.files_before faults.files_now cause
+  pub line : TookLine before now faults.sink_before faults.sink_now (line_of cause)

@@ -147,13 +147,13 @@ fn rows_on_one_table(rt: HostRuntime) -> Result<(), Fail> {
 
 #[test]
 fn missing_statement_file(rt: HostRuntime) -> Result<(), Fail> {
-    let mut files = MemFiles::new(Vec::new(rt.alloc()), Vec::new(rt.alloc()));
+    let mut files = three_files(rt.alloc(), &ROWS[0])?;
     let words = run_words(rt.alloc(), "none.sql")?;
     let mut out = sink(rt.alloc(), 4096)?;
     let mut err = sink(rt.alloc(), 4096)?;
     let status = joinplan(rt.alloc(), words.as_slice(), &mut files, &mut out, &mut err);
     assert_eq!(rt; status, 6);
-    assert_eq!(rt; err.bytes(), b"read fault: K\n".as_slice());
+    assert_eq!(rt; err.bytes(), b"read fault: none.sql\n".as_slice());
     Ok(())
 }
 

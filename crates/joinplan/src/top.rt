@@ -37,7 +37,8 @@ pub fn joinplan<F: Files, O: Sink, E: Sink>(
     ensures prefix { result ≡ 7 → WrotePart (answer_told (map string_bytes words.now) (F.contents files.old)) (O.taken out.old) (O.taken out.new) }
     ensures untouched { result ≢ 0 → result ≢ 7 → out.new ≡ out.old }
     ensures silent { result ≡ 0 → err.new ≡ err.old }
-    ensures line { result ≢ 0 → IsReported (answer_told (map string_bytes words.now) (F.contents files.old)) result (E.taken err.old) (E.taken err.new) (E.faults err.old) (E.faults err.new) }
+    ensures line { result ≢ 0 → IsReported (answer_told (map string_bytes words.now) (F.contents files.old)) result (E.taken err.old) (E.taken err.new)
+        (record { sink_before = E.faults err.old; sink_now = E.faults err.new; files_before = F.faults files.old; files_now = F.faults files.new }) }
 
     // What the files hold stays.
     ensures same { F.contents files.new ≡ F.contents files.old }

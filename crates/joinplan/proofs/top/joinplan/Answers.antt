@@ -22,6 +22,7 @@ returns-in-Ok-clause-line g c = λ _.
       cause = refusal.WriteFault;
       status_is = sym c.report.ensures.status;
       first = write_cause (answer_told words contents) c.in-Ok.bytes.items (output_told words contents c.in-Ok.bytes c.in-Ok.ensures.told);
+      counted = tt;
       line = c.report.ensures.line;
     }
 

@@ -1,0 +1,2 @@
+pub mod AgreeLaw
+pub mod ValueLaws
