@@ -1,0 +1,11 @@
+pub mod Agreeing
+pub mod Alike
+pub mod Depends
+pub mod DistinctLaws
+pub mod JoinLaws
+pub mod LabelLaws
+pub mod LabelUses
+pub mod PlaceLaws
+pub mod SideLaws
+pub mod SortLaws
+pub mod ValueLaws
