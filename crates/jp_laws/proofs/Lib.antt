@@ -1,11 +1,15 @@
 pub mod Agreeing
 pub mod Alike
+pub mod BagLaws
 pub mod Depends
 pub mod DistinctLaws
+pub mod GivenLaws
 pub mod JoinLaws
 pub mod LabelLaws
 pub mod LabelUses
 pub mod PlaceLaws
+pub mod PresenceLaws
 pub mod SideLaws
 pub mod SortLaws
+pub mod UniqueSorts
 pub mod ValueLaws
