@@ -10,13 +10,12 @@ query, and the ratio.
 import os
 import random
 import shutil
-import subprocess
 import sys
 import tempfile
-import time
 from pathlib import Path
 
-TOP = Path(__file__).resolve().parent.parent
+from timing import least, peak_memory, program_path, timed
+
 CATALOGUE = """version = 1
 [tables.t]
 file = "t.csv"
@@ -33,29 +32,8 @@ def make_table(path, rows):
             table.write(",".join(str(numbers.randrange(1000000, 10000000)) for _ in range(3)) + "\n")
 
 
-def timed(command, folder, given=None):
-    start = time.monotonic()
-    with subprocess.Popen(command, cwd=folder, stdin=subprocess.PIPE, stdout=subprocess.PIPE) as running:
-        out, _ = running.communicate(given)
-    seconds = time.monotonic() - start
-    if running.returncode != 0:
-        sys.exit(f"{command[0]} ended with {running.returncode}")
-    return seconds, out
-
-
-def peak_memory(command, folder):
-    """The peak of one child, in MiB: a child of its own process, so that no other run counts."""
-    code = (
-        "import resource, subprocess, sys\n"
-        "subprocess.run(sys.argv[1:], stdout=subprocess.DEVNULL, check=True)\n"
-        "print(resource.getrusage(resource.RUSAGE_CHILDREN).ru_maxrss)\n"
-    )
-    done = subprocess.run([sys.executable, "-c", code, *command], cwd=folder, capture_output=True, check=True)
-    return int(done.stdout) / 1024
-
-
 def main(arguments):
-    program = str(Path(arguments[0] if arguments else TOP / "crates/joinplan/out/joinplan").resolve())
+    program = program_path(arguments)
     rows = int(arguments[1]) if len(arguments) > 1 else 1000000
     with tempfile.TemporaryDirectory() as folder:
         make_table(Path(folder) / "t.csv", rows)
@@ -65,7 +43,7 @@ def main(arguments):
         for name, bound in (("one row in a hundred", 9910000), ("no row", 99999999)):
             (Path(folder) / "q.sql").write_text(f"SELECT a FROM t WHERE b >= {bound}\n")
             command = [program, "run", "K", "q.sql"]
-            seconds = min(timed(command, folder)[0] for _ in range(3))
+            seconds = least(command, folder)
             memory = peak_memory(command, folder)
             lines = timed(command, folder)[1].count(b"\n") - 1
             print(f"joinplan, {name}: {seconds:.2f} s, {memory:.0f} MiB peak, {memory / size:.1f} times the file, {lines} rows")
@@ -74,8 +52,8 @@ def main(arguments):
             print("sqlite3 isn't installed: no ratio")
             return 0
         given = b".mode csv\ncreate table t (a integer, b integer, c integer);\n.import --skip 1 t.csv t\n"
-        load = min(timed(["sqlite3", ":memory:"], folder, given)[0] for _ in range(3))
-        whole = min(timed(["sqlite3", ":memory:"], folder, given + b"select a from t where b >= 99999999;\n")[0] for _ in range(3))
+        load = least(["sqlite3", ":memory:"], folder, given)
+        whole = least(["sqlite3", ":memory:"], folder, given + b"select a from t where b >= 99999999;\n")
         print(f"sqlite3: .import {load:.2f} s, with the query {whole:.2f} s; joinplan takes {ours / whole:.2f} of it")
     return 0
 

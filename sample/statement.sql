@@ -1,1 +1,3 @@
-SELECT id FROM orders WHERE amount >= 10
+SELECT c.id, o.id, o.amount
+FROM customers c LEFT JOIN orders o ON o.customer = c.id AND o.amount >= 10
+WHERE c.region = 2 OR c.region IS NULL

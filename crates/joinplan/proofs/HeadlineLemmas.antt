@@ -1,19 +1,28 @@
 -- The answer where the contents are told, taken apart.
-use Rattle.std.proofs.Common.{inl, inr, subst, ◌≡◌, ℕ, ◌≤◌, List, [], length, cond, Option, Some, None, Result, Ok, Err, Vec, Global, refl, sym, ◌∙◌, ap}
-use Rattle.std.specs.Prelude.{nat_le}
+use Rattle.std.proofs.Common.{inl, inr, subst, ◌≡◌, ◌⊎◌, ℕ, zero, suc, ◌<◌, ◌≤◌, List, [], ◌∷◌, ◌++◌, length, map, cond, Option, Some, None, Result, Ok, Err, Vec, Global, refl, sym, ◌∙◌, ap, arith, append_assoc}
+use Rattle.std.specs.Prelude.{All, nat_le, slice_get, slice_set}
 use Rattle.std.proofs.lemmas.Bool.{cases_Bool, leb-true}
-use Rattle.jp_base.specs.declared.values.Value.{Value}
+use Rattle.std.proofs.lemmas.List.{append-nil, length-map}
+use Rattle.std.proofs.lemmas.List.Elements.{All-append, All-nil, All-weaker}
+use Rattle.jp_catalog.specs.Reading.{Read, catalogue_of}
+use Rattle.jp_catalog.specs.declared.types.Catalog.{Catalog}
 use Rattle.jp_io.specs.Sinks.{TookMore}
+use Rattle.jp_naive.specs.Built.{TableRows, IsLoaded}
 use Rattle.jp_parse.specs.First.{statement_of}
-use Rattle.jp_table.specs.First.{first_catalogue}
+use Rattle.jp_parse.specs.declared.tree.Stmt.{Stmt}
+use Rattle.jp_query.specs.declared.Query.{Query}
+use Rattle.jp_query.specs.Parts.{tables_in}
 use Rattle.jp_table.specs.Loading.{Judged, table_of}
+use Rattle.jp_resolve.specs.Resolving.{query_of}
+use Rattle.jp_resolve.specs.Schemas.{table_columns}
 use Rattle.joinplan.specs.declared.refusal.Refusal.{Refusal}
 use Rattle.joinplan.specs.declared.refusal.Refusal.TheVariants as refusal
-use Rattle.joinplan.specs.Answers.{answer_in, answer_of, catalogue_in, file_limit, or_refuse, output_in, printed, query_in, rows_or_refuse, run_in, selected_in, source_in, statement_in, statement_limit, table_in, text_in}
-use Rattle.joinplan.specs.Headline.{IsAnswer, IsHeld, PrintsAnswer}
-use Rattle.joinplan.specs.Readings.{AgreesTold, Held, Reading, after, content_of}
-use Rattle.joinplan.specs.Selections.{selection_of}
-use Rattle.joinplan.specs.Words.{RunWords, run_words}
+use Rattle.joinplan.specs.Answers.{NamedTable, Rows, answer_in, answer_of, catalogue_in, catalogue_or_refuse, check_in, count_line, counts_in, file_limit, none_loaded, or_refuse, output_in, query_in, read_into, rows_or_refuse, run_in, selected_in, source_in, statement_in, statement_limit, table_in, tables_read, text_in, unless_loaded, with_count, with_table}
+use Rattle.joinplan.specs.Headline.{AreCounted, HasCatalogue, HasPlace, HasRows, HasTables, IsAnswerTo, IsCount, IsHeld, IsMeaning, PrintsAnswer}
+use Rattle.joinplan.specs.Readings.{AgreesTold, Held, Reading, after, content_of, fold_in}
+use Rattle.joinplan.specs.Words.{Command, Run, Check, command_of}
+use Rattle.jp_resolve.proofs.ResolvedLaws.{query_good}
+use Rattle.joinplan.proofs.TableLemmas.{only_one, set_loaded, still_loaded, listed_at}
 
 -- a value comes of a value of the first part
 came_of : {A B : Type 0} (names : List (List ℕ)) (answer : Result A Refusal) (next : A → Reading B) (b : B) → (after names answer next).answer ≡ Ok b → (a : A) × (answer ≡ Ok a) × ((next a).answer ≡ Ok b)
@@ -24,9 +33,13 @@ found : {A : Type 0} (r : Refusal) (o : Option A) (v : A) → or_refuse r o ≡ 
 found r (Some x) v e = cc
 found r None v e = cc
 
-loaded : (r : Refusal) (judged : Judged (List (List Value))) (rows : List (List Value)) → rows_or_refuse r judged ≡ Ok rows → judged ≡ Ok rows
-loaded r (Ok x) rows e = cc
-loaded r (Err x) rows e = cc
+catalogue_found : (judged : Read Catalog) (catalog : Catalog) → catalogue_or_refuse judged ≡ Ok catalog → judged ≡ Ok catalog
+catalogue_found (Ok c) catalog e = cc
+catalogue_found (Err error) catalog e = cc
+
+loaded : (name : List ℕ) (judged : Judged Rows) (rows : Rows) → rows_or_refuse name judged ≡ Ok rows → judged ≡ Ok rows
+loaded name (Ok x) rows e = cc
+loaded name (Err x) rows e = cc
 
 content_held : (held : Held) (name : List ℕ) (limit : ℕ) (r : Refusal) (there : Option (List ℕ)) (bytes : List ℕ) → held name ≡ there → content_of name limit r there ≡ Ok bytes → IsHeld held name limit bytes
 content_held held name limit r None bytes at e = cc
@@ -39,39 +52,163 @@ content_held held name limit r (Some text) bytes at e =
       | inr passes ↦ let is : Err r ≡ Ok bytes = ap (λ b. cond b (Ok text) (Err r)) (sym passes) ∙ e in absurd cc
     ]
 
-command_answer : (held : Held) (words : List (List ℕ)) (command : RunWords) (bytes : List ℕ) → run_words words ≡ Some command → (run_in command held).answer ≡ Ok bytes → IsAnswer held words bytes
-command_answer held words command bytes is e =
-    let (catalog, catalog_read, rest) = came_of (catalogue_in held command.catalogue).names (catalogue_in held command.catalogue).answer (query_in held command.statement) bytes e in
-    let (text, text_read, catalog_known) = came_of (text_in held command.catalogue).names (text_in held command.catalogue).answer _ catalog catalog_read in
-    let (stmt, stmt_read, selected) = came_of (statement_in held command.statement).names (statement_in held command.statement).answer (selected_in held catalog) bytes rest in
-    let (source, source_read, stmt_known) = came_of (source_in held command.statement).names (source_in held command.statement).answer _ stmt stmt_read in
-    let (selection, selection_known, output) = came_of [] (or_refuse refusal.NotBuilt (selection_of catalog stmt)) (output_in held) bytes selected in
-    let (rows, rows_read, printed) = came_of (table_in held selection).names (table_in held selection).answer _ bytes output in
-    let (table_text, table_read, rows_known) = came_of (text_in held selection.def.file).names (text_in held selection.def.file).answer _ rows rows_read in
+has_catalogue : (held : Held) (name : List ℕ) (catalog : Catalog) → (catalogue_in held name).answer ≡ Ok catalog → HasCatalogue held name catalog
+has_catalogue held name catalog e =
+    let (text, text_read, known) = came_of (text_in held name).names (text_in held name).answer _ catalog e in
+    record { text = text; is_held = content_held held name file_limit _ (held name) text refl text_read; catalogue_is = catalogue_found (catalogue_of text) catalog known }
+
+has_rows : (held : Held) (table : NamedTable) (rows : Rows) → (table_in held table).answer ≡ Ok rows → HasRows held table rows
+has_rows held table rows e =
+    let (text, text_read, known) = came_of (text_in held table.1.file).names (text_in held table.1.file).answer _ rows e in
+    record { text = text; is_held = content_held held table.1.file file_limit _ (held table.1.file) text refl text_read; rows_are = loaded table.0 (table_of table.1 text) rows known }
+
+-- ---- the tables of a query
+
+length-set : (tables : TableRows) (place : ℕ) (rows : Rows) → length (slice_set tables place (Some rows)) ≡ length tables
+length-set [] place rows = refl
+length-set (table ∷ tables) zero rows = refl
+length-set (table ∷ tables) (suc place) rows = ap suc (length-set tables place rows)
+
+set_from : (tables : TableRows) (place other : ℕ) (rows own : Rows) → slice_get (slice_set tables place (Some rows)) other ≡ Some (Some own) → ((other ≡ place) × (own ≡ rows)) ⊎ (slice_get tables other ≡ Some (Some own))
+set_from [] place other rows own e = inr e
+set_from (table ∷ tables) zero zero rows own e = inl (refl, cc)
+set_from (table ∷ tables) zero (suc other) rows own e = inr e
+set_from (table ∷ tables) (suc place) zero rows own e = inr e
+set_from (table ∷ tables) (suc place) (suc other) rows own e =
+    elim (set_from tables place other rows own e) [
+      | inl here ↦ inl (ap suc here.0, here.1)
+      | inr there ↦ inr there
+    ]
+
+none_there : (tables : List NamedTable) (place : ℕ) (rows : Rows) → slice_get (map {B = Option Rows} (λ table. None) tables) place ≡ Some (Some rows) → ⊥
+none_there [] place rows e = cc
+none_there (table ∷ tables) zero rows e = cc
+none_there (table ∷ tables) (suc place) rows e = none_there tables place rows e
+
+module _ (held : Held) (catalog : Catalog) where
+  -- the rows of a place are those of the catalogue's table there
+  abbrev IsFrom : ℕ → Rows → Type 0
+  IsFrom place rows = (table : NamedTable) × (slice_get catalog.tables place ≡ Some table) × HasRows held table rows
+
+  record Good (tables : TableRows) : Type 0 where
+    places : length tables ≡ length catalog.tables
+    from : (place : ℕ) (rows : Rows) → slice_get tables place ≡ Some (Some rows) → IsFrom place rows
+
+  none_good : Good (none_loaded catalog)
+  none_good = record { places = length-map catalog.tables (λ table. None); from = λ place rows e. absurd (none_there catalog.tables place rows e) }
+
+  set_good : (tables : TableRows) (place : ℕ) (rows : Rows) → IsFrom place rows → Good tables → Good (slice_set tables place (Some rows))
+  set_good tables place rows is good = record {
+    places = length-set tables place rows ∙ good.places;
+    from = λ other own e. elim (set_from tables place other rows own e) [
+      | inl here ↦ subst (λ x. IsFrom other x) (sym here.1) (subst (λ n. IsFrom n rows) (sym here.0) is)
+      | inr there ↦ good.from other own there
+    ];
+  }
+
+  abbrev Kept : TableRows → TableRows → Type 0
+  Kept before now = (place : ℕ) → IsLoaded before place → IsLoaded now place
+
+  record After (before now : TableRows) (places : List ℕ) : Type 0 where
+    good : Good now
+    loaded : All (IsLoaded now) places
+    kept : Kept before now
+
+  read_after : (tables now : TableRows) (place : ℕ) (table : NamedTable) (named : Option NamedTable) → named ≡ Some table → slice_get catalog.tables place ≡ Some table → place < length tables → Good tables → (read_into held tables place named).answer ≡ Ok now → After tables now (place ∷ [])
+  read_after tables now place table None is at below good e = cc
+  read_after tables now place table (Some own) is at below good e =
+      let (rows, rows_read, known) = came_of (table_in held own).names (table_in held own).answer _ now e in
+      let same : own ≡ table = cc in
+      let done : slice_set tables place (Some rows) ≡ now = cc in
+      subst (λ t. After tables t (place ∷ [])) done (record {
+        good = set_good tables place rows (table, at, subst (λ t. HasRows held t rows) same (has_rows held own rows rows_read)) good;
+        loaded = only_one (IsLoaded (slice_set tables place (Some rows))) place (set_loaded tables place rows below);
+        kept = λ other h. still_loaded tables place other rows h;
+      })
+
+  one_after : (tables now : TableRows) (place : ℕ) (table : NamedTable) (there : Option (Option Rows)) → slice_get tables place ≡ there → slice_get catalog.tables place ≡ Some table → place < length tables → Good tables
+      → (unless_loaded tables there (read_into held tables place (slice_get catalog.tables place))).answer ≡ Ok now → After tables now (place ∷ [])
+  one_after tables now place table (Some (Some rows)) is at below good e =
+      let same : tables ≡ now = cc in
+      subst (λ t. After tables t (place ∷ [])) same (record { good = good; loaded = only_one (IsLoaded tables) place (rows, is); kept = λ other h. h })
+  one_after tables now place table (Some None) is at below good e = read_after tables now place table (slice_get catalog.tables place) at at below good e
+  one_after tables now place table None is at below good e = read_after tables now place table (slice_get catalog.tables place) at at below good e
+
+  all_after : (places : List ℕ) (tables now : TableRows) → All (λ place. place < length catalog.tables) places → Good tables → (fold_in (with_table held catalog) tables places).answer ≡ Ok now → After tables now places
+  all_after [] tables now listed good e =
+      let same : tables ≡ now = cc in
+      subst (λ t. After tables t []) same (record { good = good; loaded = All-nil _; kept = λ other h. h })
+  all_after (place ∷ places) tables now listed good e =
+      let (next, next_read, rest) = came_of (with_table held catalog tables place).names (with_table held catalog tables place).answer _ now e in
+      let below : place < length catalog.tables = listed 0 0 (omega arith) in
+      let (table, at) = listed_at catalog.tables place below in
+      let first = one_after tables next place table (slice_get tables place) refl at (omega (arith, good.places, below)) good next_read in
+      let more = all_after places next now (λ k d h. listed (suc k) d (omega (arith, h))) first.good rest in
+      record {
+        good = more.good;
+        loaded = All-append (IsLoaded now) (place ∷ []) places (All-weaker (IsLoaded next) (IsLoaded now) more.kept (place ∷ []) first.loaded) more.loaded;
+        kept = λ other h. more.kept other (first.kept other h);
+      }
+
+  placed : (tables : TableRows) → Good tables → (place : ℕ) → IsLoaded tables place → HasPlace held catalog tables place
+  placed tables good place (rows, stored) =
+      let (table, at, is) = good.from place rows stored in
+      record { table = table; listed = at; rows = rows; rows_are = is; stored = stored }
+
+  has_tables : (stmt : Stmt) (query : Query) (tables : TableRows) → query_of catalog stmt ≡ Some query → (tables_read held catalog query).answer ≡ Ok tables → HasTables held catalog query tables
+  has_tables stmt query tables is e =
+      let listed : All (λ place. place < length catalog.tables) (tables_in query) =
+      subst (λ n. All (λ place. place < n) (tables_in query)) (length-map catalog.tables table_columns) (query_good catalog stmt query is).typed.tables in
+      let done = all_after (tables_in query) (none_loaded catalog) tables listed none_good e in
+      record { places = done.good.places; named = All-weaker (IsLoaded tables) (HasPlace held catalog tables) (placed tables done.good) (tables_in query) done.loaded }
+
+run_answer : (held : Held) (catalogue statement bytes : List ℕ) → (run_in catalogue statement held).answer ≡ Ok bytes → IsMeaning held catalogue statement bytes
+run_answer held catalogue statement bytes e =
+    let (catalog, catalog_read, rest) = came_of (catalogue_in held catalogue).names (catalogue_in held catalogue).answer (query_in held statement) bytes e in
+    let (stmt, stmt_read, selected) = came_of (statement_in held statement).names (statement_in held statement).answer (selected_in held catalog) bytes rest in
+    let (source, source_read, stmt_known) = came_of (source_in held statement).names (source_in held statement).answer _ stmt stmt_read in
+    let (query, query_known, output) = came_of [] (or_refuse refusal.NotBuilt (query_of catalog stmt)) (output_in held catalog) bytes selected in
+    let (tables, tables_are, printed_known) = came_of (tables_read held catalog query).names (tables_read held catalog query).answer _ bytes output in
+    let query_is = found refusal.NotBuilt (query_of catalog stmt) query query_known in
     record {
-      command = command;
-      words_are = is;
-      catalogue_text = text;
-      catalogue_held = content_held held command.catalogue file_limit _ (held command.catalogue) text refl text_read;
       catalog = catalog;
-      catalogue_is = found refusal.Catalogue (first_catalogue text) catalog catalog_known;
+      catalogue_is = has_catalogue held catalogue catalog catalog_read;
       source = source;
-      source_held = content_held held command.statement statement_limit _ (held command.statement) source refl source_read;
-      statement = stmt;
+      source_held = content_held held statement statement_limit _ (held statement) source refl source_read;
+      stmt = stmt;
       statement_is = found refusal.NotBuilt (statement_of source) stmt stmt_known;
-      selection = selection;
-      selection_is = found refusal.NotBuilt (selection_of catalog stmt) selection selection_known;
-      table_text = table_text;
-      table_held = content_held held selection.def.file file_limit _ (held selection.def.file) table_text refl table_read;
-      rows = rows;
-      table_is = loaded _ (table_of selection.def table_text) rows rows_known;
+      query = query;
+      query_is = query_is;
+      tables = tables;
+      tables_are = has_tables held catalog stmt query tables query_is tables_are;
       printed = cc;
     }
 
-words_answer : (held : Held) (words : List (List ℕ)) (command : Option RunWords) (bytes : List ℕ) → run_words words ≡ command → (answer_in command held).answer ≡ Ok bytes → IsAnswer held words bytes
-words_answer held words None bytes is e = cc
-words_answer held words (Some command) bytes is e = command_answer held words command bytes is e
+-- ---- `check`
+
+counts_after : (held : Held) (tables : List NamedTable) (before bytes : List ℕ) → (fold_in (with_count held) before tables).answer ≡ Ok bytes → (more : List ℕ) × AreCounted held tables more × (bytes ≡ before ++ more)
+counts_after held [] before bytes e =
+    let same : before ≡ bytes = cc in
+    ([], refl, sym same ∙ sym (append-nil before))
+counts_after held (table ∷ tables) before bytes e =
+    let (next, next_read, rest) = came_of (with_count held before table).names (with_count held before table).answer _ bytes e in
+    let (rows, rows_read, known) = came_of (table_in held table).names (table_in held table).answer _ next next_read in
+    let line = count_line table.0 rows in
+    let is : before ++ line ≡ next = cc in
+    let (more, counted, all) = counts_after held tables next bytes rest in
+    (line ++ more, (rows, more, has_rows held table rows rows_read, counted, refl), all ∙ ap (λ xs. xs ++ more) (sym is) ∙ append_assoc before line more)
+
+check_answer : (held : Held) (catalogue bytes : List ℕ) → (check_in catalogue held).answer ≡ Ok bytes → IsCount held catalogue bytes
+check_answer held catalogue bytes e =
+    let (catalog, catalog_read, rest) = came_of (catalogue_in held catalogue).names (catalogue_in held catalogue).answer (counts_in held) bytes e in
+    let (more, counted, all) = counts_after held catalog.tables [] bytes rest in
+    record { catalog = catalog; catalogue_is = has_catalogue held catalogue catalog catalog_read; counted = subst (AreCounted held catalog.tables) (sym all) counted }
+
+words_answer : (held : Held) (command : Option Command) (bytes : List ℕ) → (answer_in command held).answer ≡ Ok bytes → IsAnswerTo held command bytes
+words_answer held None bytes e = cc
+words_answer held (Some (Run catalogue statement)) bytes e = run_answer held catalogue statement bytes e
+words_answer held (Some (Check catalogue)) bytes e = check_answer held catalogue bytes e
 
 pub prints_answer : (words : List (List ℕ)) (contents : Option Held) (before now : Option (List ℕ)) (v : Vec ℕ Global) → AgreesTold (λ (w : Vec ℕ Global). w.items) (Ok v) contents (answer_of words) → TookMore before v.items now → PrintsAnswer contents words before now
 prints_answer words None before now v h took = tt
-prints_answer words (Some held) before now v h took = record { bytes = v.items; answer = words_answer held words (run_words words) v.items refl h; took = took }
+prints_answer words (Some held) before now v h took = record { bytes = v.items; answer = words_answer held (command_of words) v.items h; took = took }

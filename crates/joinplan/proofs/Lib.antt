@@ -1,6 +1,7 @@
-pub mod HeadlineLemmas
 pub mod LineLemmas
 pub mod OutcomeLemmas
 pub mod ReadingLemmas
-pub mod RowLemmas
 pub mod WriterLemmas
+pub mod MentionLemmas
+pub mod TableLemmas
+pub mod HeadlineLemmas

@@ -9,7 +9,7 @@ use Rattle.joinplan.specs.declared.refusal.Refusal.TheVariants as refusal
 use Rattle.joinplan.specs.Answers.{answer_of}
 use Rattle.joinplan.specs.Faults.{Counts, IsExplained, MayBeRead}
 use Rattle.joinplan.specs.Outcomes.{Answer, IsCause, IsCounted, IsOutput, WrotePart, answer_told}
-use Rattle.joinplan.specs.Words.{RunWords}
+use Rattle.joinplan.specs.Words.{Command}
 use Rattle.joinplan.specs.Readings.{AgreesTold, Held}
 use Rattle.joinplan.proofs.LineLemmas.{failed}
 
@@ -33,16 +33,21 @@ explained_counted May before now (refusal.ReadFault name) h = h.1
 explained_counted May before now refusal.Usage h = tt
 explained_counted May before now refusal.WriteFault h = tt
 explained_counted May before now refusal.Memory h = tt
-explained_counted May before now refusal.Catalogue h = tt
-explained_counted May before now (refusal.Data table) h = tt
+explained_counted May before now (refusal.Catalogue error) h = tt
+explained_counted May before now (refusal.Data table error) h = tt
 explained_counted May before now refusal.NotBuilt h = tt
 explained_counted May before now (refusal.FileTooLarge name) h = tt
 explained_counted May before now refusal.StatementTooLarge h = tt
 
 -- words without a form are refused for that alone, and of any other words a refusal is explained
-pub counted : (command : Option RunWords) (before now : Counts) (r : Refusal) → (command ≢ None → IsExplained (MayBeRead command) before now r) → (command ≡ None → refused r ≡ refused refusal.Usage) → IsCounted before now r
+pub counted : (command : Option Command) (before now : Counts) (r : Refusal) → (command ≢ None → IsExplained (MayBeRead command) before now r) → (command ≡ None → refused r ≡ refused refusal.Usage) → IsCounted before now r
 counted (Some words) before now r explained usage = explained_counted (MayBeRead (Some words)) before now r (explained (λ e. cc))
 counted None before now r explained usage = let is : r ≡ refusal.Usage = let e = usage refl in cc in subst (IsCounted before now) (sym is) tt
+
+-- before the output is made no write can fail
+pub no_write : (command : Option Command) (before now : Counts) (r : Refusal) → (command ≢ None → IsExplained (MayBeRead command) before now r) → (command ≡ None → refused r ≡ refused refusal.Usage) → r ≢ refusal.WriteFault
+no_write (Some command) before now r explained usage = λ e. subst (IsExplained (MayBeRead (Some command)) before now) e (explained (λ none. cc))
+no_write None before now r explained usage = λ e. let is : r ≡ refusal.Usage = let u = usage refl in cc in cc
 
 pub refusal_told : (words : List (List ℕ)) (contents : Option Held) (r : Refusal) → AgreesTold (λ (w : Vec ℕ Global). w.items) (Err r) contents (answer_of words) → r ≢ refusal.WriteFault → IfSome (answer_told words contents) (λ answer. IsCause answer r)
 refusal_told words None r h other = tt
@@ -50,8 +55,8 @@ refusal_told words (Some held) refusal.WriteFault h other = absurd (other refl)
 refusal_told words (Some held) (refusal.ReadFault name) h other = h
 refusal_told words (Some held) refusal.Usage h other = h
 refusal_told words (Some held) refusal.Memory h other = tt
-refusal_told words (Some held) refusal.Catalogue h other = h
-refusal_told words (Some held) (refusal.Data table) h other = h
+refusal_told words (Some held) (refusal.Catalogue error) h other = h
+refusal_told words (Some held) (refusal.Data table error) h other = h
 refusal_told words (Some held) refusal.NotBuilt h other = h
 refusal_told words (Some held) (refusal.FileTooLarge name) h other = h
 refusal_told words (Some held) refusal.StatementTooLarge h other = h

@@ -1,14 +1,18 @@
 -- Readings in a row, and what a read of one file says of them.
-use Rattle.std.proofs.Common.{◌≡◌, ℕ, ◌≤◌, inl, inr, List, [], ◌∷◌, ◌++◌, length, Option, Some, None, Result, Ok, Err, Vec, Global, refl, sym, ◌∙◌, ap, subst, arith, cond}
-use Rattle.std.specs.Prelude.{Contains, IfErr}
+use Rattle.std.proofs.Common.{◌≡◌, ℕ, ◌+◌, ◌≤◌, suc, inl, inr, take, drop, List, [], ◌∷◌, ◌++◌, length, Option, Some, None, Result, Ok, Err, Vec, Global, refl, sym, ◌∙◌, ap, subst, arith, cond}
+use Rattle.std.specs.Prelude.{Contains, IfErr, slice_get}
 use Rattle.std.proofs.lemmas.Bool.{le-leb, lt-leb}
+use Rattle.std.proofs.lemmas.List.{take_more, take_all, take-append-drop}
+use Rattle.std.proofs.Math.Seq.{drop-cons}
+use Rattle.std.proofs.lemmas.Option.{get_or_from_slice_get, slice_get_within}
 use Rattle.std.proofs.lemmas.List.Elements.{Contains-append_left, Contains-append_right}
 use Rattle.jp_io.specs.Files.{Rose, WholeIfThere, ReadsWhole}
 use Rattle.jp_io.specs.declared.reading.FileError.TheVariants as file_error
+use Rattle.jp_table.specs.declared.error.TableError.{TableError}
 use Rattle.joinplan.specs.declared.refusal.Refusal.{Refusal}
 use Rattle.joinplan.specs.declared.refusal.Refusal.TheVariants as refusal
 use Rattle.joinplan.specs.Faults.{Counts, IsExplained}
-use Rattle.joinplan.specs.Readings.{Held, Reading, known, after, and_then, content_of, file_of, Agrees, AgreesRefused, AgreesTold}
+use Rattle.joinplan.specs.Readings.{Held, Reading, known, after, and_then, content_of, file_of, fold_in, Agrees, AgreesRefused, AgreesTold}
 use Rattle.joinplan.specs.Refusals.{IsNamed}
 
 -- ---- one reading after the other
@@ -18,8 +22,8 @@ widened : {A : Type 0} (names : List (List ℕ)) (rest : Reading A) (r : Refusal
 widened names rest refusal.Memory h = tt
 widened names rest (refusal.ReadFault name) h = Contains-append_right names rest.names name h
 widened names rest refusal.Usage h = h
-widened names rest refusal.Catalogue h = h
-widened names rest (refusal.Data table) h = h
+widened names rest (refusal.Catalogue error) h = h
+widened names rest (refusal.Data table error) h = h
 widened names rest refusal.NotBuilt h = h
 widened names rest (refusal.FileTooLarge name) h = h
 widened names rest refusal.StatementTooLarge h = h
@@ -49,8 +53,8 @@ agrees_stop : {A B : Type 0} (first : Reading A) (next : A → Reading B) (r : R
 agrees_stop first next refusal.Memory h = tt
 agrees_stop first next (refusal.ReadFault name) h = first_names first.names first.answer next name h
 agrees_stop first next refusal.Usage h = stopped_at first next refusal.Usage h
-agrees_stop first next refusal.Catalogue h = stopped_at first next refusal.Catalogue h
-agrees_stop first next (refusal.Data table) h = stopped_at first next (refusal.Data table) h
+agrees_stop first next (refusal.Catalogue error) h = stopped_at first next (refusal.Catalogue error) h
+agrees_stop first next (refusal.Data table error) h = stopped_at first next (refusal.Data table error) h
 agrees_stop first next refusal.NotBuilt h = stopped_at first next refusal.NotBuilt h
 agrees_stop first next (refusal.FileTooLarge name) h = stopped_at first next (refusal.FileTooLarge name) h
 agrees_stop first next refusal.StatementTooLarge h = stopped_at first next refusal.StatementTooLarge h
@@ -107,8 +111,8 @@ explained_more May May' before between now more kept refusal.Usage h = h
 explained_more May May' before between now more kept refusal.WriteFault h = h
 explained_more May May' before between now more kept (refusal.ReadFault name) h = (more name h.0, omega (arith, h.1, kept name))
 explained_more May May' before between now more kept refusal.Memory h = tt
-explained_more May May' before between now more kept refusal.Catalogue h = tt
-explained_more May May' before between now more kept (refusal.Data table) h = tt
+explained_more May May' before between now more kept (refusal.Catalogue error) h = tt
+explained_more May May' before between now more kept (refusal.Data table error) h = tt
 explained_more May May' before between now more kept refusal.NotBuilt h = tt
 explained_more May May' before between now more kept (refusal.FileTooLarge name) h = tt
 explained_more May May' before between now more kept refusal.StatementTooLarge h = tt
@@ -121,9 +125,9 @@ pub explained_large : (name : List ℕ) (before now : Counts) (r : Refusal) → 
 explained_large name before now r (inl memory) = subst (IsExplained (λ n. n ≡ name) before now) (sym memory) tt
 explained_large name before now r (inr is) = subst (IsExplained (λ n. n ≡ name) before now) (sym is) tt
 
-pub explained_data : (table name : List ℕ) (before now : Counts) (r : Refusal) → IsNamed refusal.Data table r → IsExplained (λ n. n ≡ name) before now r
-explained_data table name before now r (inl memory) = subst (IsExplained (λ n. n ≡ name) before now) (sym memory) tt
-explained_data table name before now r (inr is) = subst (IsExplained (λ n. n ≡ name) before now) (sym is) tt
+pub explained_data : (table name : List ℕ) (error : TableError) (before now : Counts) (r : Refusal) → IsNamed (λ n. refusal.Data n error) table r → IsExplained (λ n. n ≡ name) before now r
+explained_data table name error before now r (inl memory) = subst (IsExplained (λ n. n ≡ name) before now) (sym memory) tt
+explained_data table name error before now r (inr is) = subst (IsExplained (λ n. n ≡ name) before now) (sym is) tt
 
 -- an answer that is known without a file
 pub told_known : {A : Type 0} (contents : Option Held) (answer : Result A Refusal) (value : A) → answer ≡ Ok value → AgreesTold {X = A} (λ a. a) (Ok value) contents (λ held. known answer)
@@ -135,3 +139,93 @@ pub refusal_explained : {X : Type 0} (May May' : List ℕ → Type 0) (before be
     IfErr result (IsExplained May between now) → IfErr result (IsExplained May' before now)
 refusal_explained May May' before between now more kept (Ok value) h = tt
 refusal_explained May May' before between now more kept (Err r) h = explained_more May May' before between now more kept r h
+
+-- ---- one reading for each of a list
+
+same_answer : {A : Type 0} (names : List (List ℕ)) (answer : Result A Refusal) (f g : A → Reading A) (a : A) (whole : Result A Refusal) → ((n : A) → (f n).answer ≡ Ok a → (g n).answer ≡ whole) → (after names answer f).answer ≡ Ok a → (after names answer g).answer ≡ whole
+same_answer names (Ok n) f g a whole h e = h n e
+same_answer names (Err r) f g a whole h e = cc
+
+-- what the first of a list give, and then the others
+fold_then : {A X : Type 0} (step : A → X → Reading A) (xs ys : List X) (value a : A) → (fold_in step value xs).answer ≡ Ok a → (fold_in step value (xs ++ ys)).answer ≡ (fold_in step a ys).answer
+fold_then {A} step [] ys value a e =
+    let same : value ≡ a = cc in
+    let P : A → Type 0 = λ x. (fold_in step value ys).answer ≡ (fold_in step x ys).answer in
+    subst P same refl
+fold_then step (x ∷ xs) ys value a e =
+    same_answer (step value x).names (step value x).answer (λ n. fold_in step n xs) (λ n. fold_in step n (xs ++ ys)) a (fold_in step a ys).answer (λ n h. fold_then step xs ys n a h) e
+
+fold_one : {A X : Type 0} (step : A → X → Reading A) (x : X) (a b : A) → (step a x).answer ≡ Ok b → (fold_in step a (x ∷ [])).answer ≡ Ok b
+fold_one {A} step x a b e =
+    let P : Result A Refusal → Type 0 = λ answer. (after (step a x).names answer (λ n. fold_in step n [])).answer ≡ Ok b in
+    subst P (sym e) refl
+
+later_refused : {A : Type 0} (names : List (List ℕ)) (answer : Result A Refusal) (f g : A → Reading A) (a : A) (r : Refusal) → ((n : A) → (f n).answer ≡ Ok a → AgreesRefused r (g n)) → (after names answer f).answer ≡ Ok a → AgreesRefused r (after names answer g)
+later_refused names (Ok n) f g a r h e = widened names (g n) r (h n e)
+later_refused names (Err other) f g a r h e = cc
+
+fold_refused : {A X : Type 0} (step : A → X → Reading A) (xs ys : List X) (value a : A) (r : Refusal) → (fold_in step value xs).answer ≡ Ok a → AgreesRefused r (fold_in step a ys) → AgreesRefused r (fold_in step value (xs ++ ys))
+fold_refused {A} step [] ys value a r e h =
+    let same : value ≡ a = cc in
+    let P : A → Type 0 = λ x. AgreesRefused r (fold_in step x ys) in
+    subst P (sym same) h
+fold_refused step (x ∷ xs) ys value a r e h =
+    later_refused (step value x).names (step value x).answer (λ n. fold_in step n xs) (λ n. fold_in step n (xs ++ ys)) a r (λ n k. fold_refused step xs ys n a r k h) e
+
+-- what a view shows is what is known
+pub told_shown : {X A : Type 0} (view : X → A) (contents : Option Held) (reading : Held → Reading A) (x : X) → AgreesTold view (Ok x) contents reading → AgreesTold {X = A} (λ a. a) (Ok (view x)) contents reading
+told_shown view None reading x h = tt
+told_shown view (Some held) reading x h = h
+
+pub told_viewed : {X A : Type 0} (view : X → A) (contents : Option Held) (reading : Held → Reading A) (x : X) → AgreesTold {X = A} (λ a. a) (Ok (view x)) contents reading → AgreesTold view (Ok x) contents reading
+told_viewed view None reading x h = tt
+told_viewed view (Some held) reading x h = h
+
+module _ {A X : Type 0} (contents : Option Held) (step : Held → A → X → Reading A) (value : A) (xs : List X) where
+  -- what the first of the list give
+  abbrev pub GivenBy : ℕ → A → Type 0
+  GivenBy i a = AgreesTold {X = A} (λ b. b) (Ok a) contents (λ held. fold_in (step held) value (take i xs))
+
+  pub none_given : GivenBy 0 value
+  none_given = at contents
+    where
+      at : (told : Option Held) → AgreesTold {X = A} (λ b. b) (Ok value) told (λ held. fold_in (step held) value (take 0 xs))
+      at None = tt
+      at (Some held) = refl
+
+  pub one_more_given : (i : ℕ) (x : X) (a b : A) → slice_get xs i ≡ Some x → GivenBy i a → AgreesTold {X = A} (λ c. c) (Ok b) contents (λ held. step held a x) → GivenBy (i + 1) b
+  one_more_given i x a b found = at contents
+    where
+      at : (told : Option Held) → AgreesTold {X = A} (λ c. c) (Ok a) told (λ held. fold_in (step held) value (take i xs)) → AgreesTold {X = A} (λ c. c) (Ok b) told (λ held. step held a x)
+          → AgreesTold {X = A} (λ c. c) (Ok b) told (λ held. fold_in (step held) value (take (i + 1) xs))
+      at None h k = tt
+      at (Some held) h k =
+          let more : take (i + 1) xs ≡ take i xs ++ x ∷ [] = take_more xs i x (slice_get_within xs i x found) ∙ ap (λ y. take i xs ++ y ∷ []) (get_or_from_slice_get xs i x x found) in
+          ap (λ ys. (fold_in (step held) value ys).answer) more ∙ fold_then (step held) (take i xs) (x ∷ []) value a h ∙ fold_one (step held) x a b k
+
+  pub all_given : (i : ℕ) (a : A) → length xs ≤ i → GivenBy i a → AgreesTold {X = A} (λ c. c) (Ok a) contents (λ held. fold_in (step held) value xs)
+  all_given i a all h = subst (λ ys. AgreesTold {X = A} (λ c. c) (Ok a) contents (λ held. fold_in (step held) value ys)) (take_all i xs all) h
+
+  -- a refusal behind them is one of the whole list
+  pub given_until : {Y Z : Type 0} (view : Y → A) (other : Z → A) (i : ℕ) (x : X) (a : A) (r : Refusal) → slice_get xs i ≡ Some x → GivenBy i a → AgreesTold {X = Z} other (Err r) contents (λ held. step held a x) → AgreesTold {X = Y} view (Err r) contents (λ held. fold_in (step held) value xs)
+  given_until {Y} {Z} view other i x a r found = at contents
+    where
+      at : (told : Option Held) → AgreesTold {X = A} (λ c. c) (Ok a) told (λ held. fold_in (step held) value (take i xs)) → AgreesTold {X = Z} other (Err r) told (λ held. step held a x)
+          → AgreesTold {X = Y} view (Err r) told (λ held. fold_in (step held) value xs)
+      at None h k = tt
+      at (Some held) h k =
+          let rest = drop (suc i) xs in
+          let parts : take i xs ++ x ∷ rest ≡ xs = ap (λ ys. take i xs ++ ys) (ap (λ y. y ∷ rest) (sym (get_or_from_slice_get xs i x x found)) ∙ sym (drop-cons xs i x (slice_get_within xs i x found))) ∙ take-append-drop i xs in
+          let P : List X → Type 0 = λ ys. AgreesRefused r (fold_in (step held) value ys) in
+          subst P parts (fold_refused (step held) (take i xs) (x ∷ rest) value a r h (agrees_stop (step held a x) (λ n. fold_in (step held) n rest) r k))
+
+-- what a `?` hands on
+pub told_on : {Y Z A : Type 0} (view : Y → A) (other : Z → A) (contents : Option Held) (reading : Held → Reading A) (result : Result Y Refusal) (r : Refusal) → result ≡ Err r → AgreesTold {X = Z} other (Err r) contents reading → AgreesTold {X = Y} view result contents reading
+told_on {Y} view other contents reading result r e h = subst (λ x. AgreesTold {X = Y} view x contents reading) (sym e) (at contents h)
+  where
+    at : (told : Option Held) → AgreesTold other (Err r) told reading → AgreesTold {X = Y} view (Err r) told reading
+    at None h = tt
+    at (Some held) h = h
+
+pub explained_on : {Y : Type 0} (May May' : List ℕ → Type 0) (before between now : Counts) (result : Result Y Refusal) (r : Refusal) → result ≡ Err r → ((name : List ℕ) → May name → May' name) → ((name : List ℕ) → before name ≤ between name) → IsExplained May between now r → IfErr result (IsExplained May' before now)
+explained_on May May' before between now result r e more kept h = subst (λ x. IfErr x (IsExplained May' before now)) (sym e) (explained_more May May' before between now more kept r h)

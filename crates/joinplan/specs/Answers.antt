@@ -1,19 +1,26 @@
 -- The answer to the words, where the contents of the files are told: the first refusal, or the output.
--- The order: words; catalogue, its size, its text; statement, its size, its text; table, its size, its text.
-use Rattle.std.specs.Prelude.{ℕ, List, [], ◌∷◌, Option, Some, None, Result, Ok, Err}
+-- The order: words; catalogue, its size, its text; for `run` statement, its size, its text, its names, and each table in
+-- order of first mention; for `check` each table of the catalogue. Of a table: its size, its text.
+use Rattle.std.specs.Prelude.{ℕ, List, [], ◌++◌, length, map, Option, Some, None, Result, Ok, Err, codes, decimal, slice_get, slice_set}
 use Rattle.jp_base.specs.declared.values.Value.{Value}
+use Rattle.jp_catalog.specs.Reading.{Read, catalogue_of}
 use Rattle.jp_catalog.specs.declared.types.Catalog.{Catalog}
+use Rattle.jp_catalog.specs.declared.types.TableDef.{TableDef}
+use Rattle.jp_naive.specs.Built.{TableRows, outermost}
 use Rattle.jp_parse.specs.First.{statement_of}
 use Rattle.jp_parse.specs.declared.tree.Stmt.{Stmt}
-use Rattle.jp_table.specs.First.{first_catalogue}
+use Rattle.jp_query.specs.Meaning.{meaning}
+use Rattle.jp_query.specs.Parts.{tables_in}
+use Rattle.jp_query.specs.Scopes.{rows_of_tables}
+use Rattle.jp_query.specs.declared.Output.{Output, out-Output}
+use Rattle.jp_query.specs.declared.Query.{Query, out-Query}
 use Rattle.jp_table.specs.Loading.{Judged, table_of}
+use Rattle.jp_resolve.specs.Resolving.{query_of}
 use Rattle.joinplan.specs.declared.refusal.Refusal.{Refusal}
 use Rattle.joinplan.specs.declared.refusal.Refusal.TheVariants as refusal
-use Rattle.joinplan.specs.Meaning.{meaning}
 use Rattle.joinplan.specs.Output.{output_text}
-use Rattle.joinplan.specs.Readings.{Held, Reading, known, and_then, file_of}
-use Rattle.joinplan.specs.Selections.{Selection, selection_of}
-use Rattle.joinplan.specs.Words.{RunWords, run_words}
+use Rattle.joinplan.specs.Readings.{Held, Reading, known, and_then, file_of, fold_in}
+use Rattle.joinplan.specs.Words.{Command, Run, Check, command_of}
 
 -- any file but a statement has at most so many bytes
 abbrev pub file_limit : ℕ
@@ -27,17 +34,24 @@ abbrev pub or_refuse : {A : Type 0} → Refusal → Option A → Result A Refusa
 or_refuse refusal (Some value) = Ok value
 or_refuse refusal None = Err refusal
 
--- the rows of a data file, or this refusal where its bytes are refused
-abbrev pub rows_or_refuse : Refusal → Judged (List (List Value)) → Result (List (List Value)) Refusal
-rows_or_refuse refusal (Ok rows) = Ok rows
-rows_or_refuse refusal (Err _) = Err refusal
+abbrev pub catalogue_or_refuse : Read Catalog → Result Catalog Refusal
+catalogue_or_refuse (Ok catalog) = Ok catalog
+catalogue_or_refuse (Err error) = Err (refusal.Catalogue error)
+
+abbrev pub Rows : Type 0
+Rows = List (List Value)
+
+-- the rows of the table of this name
+abbrev pub rows_or_refuse : List ℕ → Judged Rows → Result Rows Refusal
+rows_or_refuse name (Ok rows) = Ok rows
+rows_or_refuse name (Err error) = Err (refusal.Data name error)
 
 -- a file that isn't a statement
 abbrev pub text_in : Held → List ℕ → Reading (List ℕ)
 text_in held name = file_of held name file_limit (refusal.FileTooLarge name)
 
 abbrev pub catalogue_in : Held → List ℕ → Reading Catalog
-catalogue_in held name = and_then (text_in held name) (λ bytes. known (or_refuse refusal.Catalogue (first_catalogue bytes)))
+catalogue_in held name = and_then (text_in held name) (λ bytes. known (catalogue_or_refuse (catalogue_of bytes)))
 
 abbrev pub source_in : Held → List ℕ → Reading (List ℕ)
 source_in held name = file_of held name statement_limit refusal.StatementTooLarge
@@ -45,28 +59,83 @@ source_in held name = file_of held name statement_limit refusal.StatementTooLarg
 abbrev pub statement_in : Held → List ℕ → Reading Stmt
 statement_in held name = and_then (source_in held name) (λ source. known (or_refuse refusal.NotBuilt (statement_of source)))
 
-abbrev pub table_in : Held → Selection → Reading (List (List Value))
-table_in held selection =
-    and_then (text_in held selection.def.file) (λ bytes. known (rows_or_refuse (refusal.Data selection.parts.table) (table_of selection.def bytes)))
+abbrev pub NamedTable : Type 0
+NamedTable = List ℕ × TableDef
 
-abbrev pub printed : Selection → List (List Value) → List ℕ
-printed selection rows = output_text (selection.parts.label ∷ []) (meaning selection rows)
+abbrev pub table_in : Held → NamedTable → Reading Rows
+table_in held table = and_then (text_in held table.1.file) (λ bytes. known (rows_or_refuse table.0 (table_of table.1 bytes)))
 
-abbrev pub output_in : Held → Selection → Reading (List ℕ)
-output_in held selection = and_then (table_in held selection) (λ rows. known (Ok (printed selection rows)))
+-- ---- `run`
+
+abbrev pub none_loaded : Catalog → TableRows
+none_loaded catalog = map (λ table. None) catalog.tables
+
+-- the tables with that of a place
+abbrev pub read_into : Held → TableRows → ℕ → Option NamedTable → Reading TableRows
+read_into held tables place (Some table) = and_then (table_in held table) (λ rows. known (Ok (slice_set tables place (Some rows))))
+read_into held tables place None = known (Ok tables)
+
+-- a table is read once
+abbrev pub unless_loaded : TableRows → Option (Option Rows) → Reading TableRows → Reading TableRows
+unless_loaded tables (Some (Some rows)) reading = known (Ok tables)
+unless_loaded tables _ reading = reading
+
+abbrev pub with_table : Held → Catalog → TableRows → ℕ → Reading TableRows
+with_table held catalog tables place = unless_loaded tables (slice_get tables place) (read_into held tables place (slice_get catalog.tables place))
+
+-- the tables that the query names
+abbrev pub tables_read : Held → Catalog → Query → Reading TableRows
+tables_read held catalog query = fold_in (with_table held catalog) (none_loaded catalog) (tables_in query)
+
+abbrev pub name_of : Output → List ℕ
+name_of output = (out-Output output).name
+
+-- the query's meaning, printed
+abbrev pub printed : Query → TableRows → List ℕ
+printed query tables = output_text (map name_of (out-Query query).columns) (meaning (rows_of_tables tables) query outermost)
+
+abbrev pub output_in : Held → Catalog → Query → Reading (List ℕ)
+output_in held catalog query = and_then (tables_read held catalog query) (λ tables. known (Ok (printed query tables)))
+
+abbrev pub resolved_in : Catalog → Stmt → Reading Query
+resolved_in catalog stmt = known (or_refuse refusal.NotBuilt (query_of catalog stmt))
 
 abbrev pub selected_in : Held → Catalog → Stmt → Reading (List ℕ)
-selected_in held catalog stmt = and_then (known (or_refuse refusal.NotBuilt (selection_of catalog stmt))) (output_in held)
+selected_in held catalog stmt = and_then (resolved_in catalog stmt) (output_in held catalog)
 
 abbrev pub query_in : Held → List ℕ → Catalog → Reading (List ℕ)
 query_in held name catalog = and_then (statement_in held name) (selected_in held catalog)
 
-abbrev pub run_in : RunWords → Held → Reading (List ℕ)
-run_in words held = and_then (catalogue_in held words.catalogue) (query_in held words.statement)
+abbrev pub run_in : List ℕ → List ℕ → Held → Reading (List ℕ)
+run_in catalogue statement held = and_then (catalogue_in held catalogue) (query_in held statement)
 
-abbrev pub answer_in : Option RunWords → Held → Reading (List ℕ)
+-- ---- `check`
+
+abbrev pub counted : List ℕ → ℕ → List ℕ
+counted name count = name ++ codes ": " ++ decimal count ++ codes " rows\n"
+
+abbrev pub count_line : List ℕ → Rows → List ℕ
+count_line name rows = counted name (length rows)
+
+-- the lines with that of one more table
+abbrev pub with_count : Held → List ℕ → NamedTable → Reading (List ℕ)
+with_count held text table = and_then (table_in held table) (λ rows. known (Ok (text ++ count_line table.0 rows)))
+
+abbrev pub counts_in : Held → Catalog → Reading (List ℕ)
+counts_in held catalog = fold_in (with_count held) [] catalog.tables
+
+abbrev pub check_in : List ℕ → Held → Reading (List ℕ)
+check_in catalogue held = and_then (catalogue_in held catalogue) (counts_in held)
+
+-- ---- any command
+
+abbrev pub command_in : Command → Held → Reading (List ℕ)
+command_in (Run catalogue statement) held = run_in catalogue statement held
+command_in (Check catalogue) held = check_in catalogue held
+
+abbrev pub answer_in : Option Command → Held → Reading (List ℕ)
 answer_in None held = known (Err refusal.Usage)
-answer_in (Some words) held = run_in words held
+answer_in (Some command) held = command_in command held
 
 abbrev pub answer_of : List (List ℕ) → Held → Reading (List ℕ)
-answer_of words held = answer_in (run_words words) held
+answer_of words held = answer_in (command_of words) held

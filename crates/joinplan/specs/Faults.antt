@@ -1,11 +1,11 @@
 -- What is known of a refusal where no contents are told: the counts of faults show which file couldn't be read.
-use Rattle.std.specs.Prelude.{◌≡◌, ℕ, ◌⊎◌, List, Option, Some, None, Any}
+use Rattle.std.specs.Prelude.{◌≡◌, ℕ, ◌⊎◌, List, Option, Some, None, Ok, Any}
 use Rattle.jp_io.specs.Files.{Rose}
 use Rattle.jp_catalog.specs.declared.types.Catalog.{Catalog}
-use Rattle.jp_table.specs.First.{first_catalogue}
+use Rattle.jp_catalog.specs.Reading.{catalogue_of}
 use Rattle.joinplan.specs.declared.refusal.Refusal.{Refusal}
 use Rattle.joinplan.specs.declared.refusal.Refusal.TheVariants as refusal
-use Rattle.joinplan.specs.Words.{RunWords}
+use Rattle.joinplan.specs.Words.{Command, Run, Check}
 
 -- counts of faults, one for each name
 abbrev pub Counts : Type 0
@@ -23,9 +23,10 @@ IsTableFile catalog name = Any (λ table. table.1.file ≡ name) catalog.tables
 
 -- the file of a table of some catalogue
 abbrev pub IsSomeTableFile : List ℕ → Type 0
-IsSomeTableFile name = (bytes : List ℕ) × (catalog : Catalog) × (first_catalogue bytes ≡ Some catalog) × IsTableFile catalog name
+IsSomeTableFile name = (bytes : List ℕ) × (catalog : Catalog) × (catalogue_of bytes ≡ Ok catalog) × IsTableFile catalog name
 
 -- a name that the words give, or the file of a table
-abbrev pub MayBeRead : Option RunWords → List ℕ → Type 0
+abbrev pub MayBeRead : Option Command → List ℕ → Type 0
 MayBeRead None name = ⊥
-MayBeRead (Some words) name = (name ≡ words.catalogue) ⊎ ((name ≡ words.statement) ⊎ IsSomeTableFile name)
+MayBeRead (Some (Run catalogue statement)) name = (name ≡ catalogue) ⊎ ((name ≡ statement) ⊎ IsSomeTableFile name)
+MayBeRead (Some (Check catalogue)) name = (name ≡ catalogue) ⊎ IsSomeTableFile name

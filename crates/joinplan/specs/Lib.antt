@@ -2,13 +2,11 @@ pub mod Answers
 pub mod Faults
 pub mod Headline
 pub mod Lines
-pub mod Meaning
+pub mod Mentions
 pub mod Outcomes
 pub mod Output
-pub mod Parts
 pub mod Readings
 pub mod Refusals
-pub mod Selections
 pub mod Views
 pub mod Words
 pub mod Writers

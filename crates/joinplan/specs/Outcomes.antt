@@ -8,7 +8,7 @@ use Rattle.joinplan.specs.Faults.{Counts, MayBeRead}
 use Rattle.joinplan.specs.Readings.{Held, Reading}
 use Rattle.joinplan.specs.Lines.{TookLine}
 use Rattle.joinplan.specs.Refusals.{line_of, status_of}
-use Rattle.joinplan.specs.Words.{RunWords}
+use Rattle.joinplan.specs.Words.{Command}
 
 abbrev pub Answer : Type 0
 Answer = Reading (List ℕ)
@@ -34,7 +34,7 @@ abbrev pub ComesExactly : ℕ → Option Answer → ℕ → Counts → Counts �
 ComesExactly status told result before now = IfSome told (λ answer. IsExactly status answer result before now)
 
 -- a fault of a file that is read before any refusal; where the answer isn't known, of one that may be read
-abbrev pub FaultIn : Option Answer → Option RunWords → Counts → Counts → Type 0
+abbrev pub FaultIn : Option Answer → Option Command → Counts → Counts → Type 0
 FaultIn (Some answer) words before now = FaultAmong answer.names before now
 FaultIn None words before now = (name : List ℕ) × MayBeRead words name × Rose (before name) (now name)
 

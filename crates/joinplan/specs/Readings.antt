@@ -47,3 +47,8 @@ Agrees view (Err refusal) reading = AgreesRefused refusal reading
 abbrev pub AgreesTold : {X A : Type 0} → (X → A) → Result X Refusal → Option Held → (Held → Reading A) → Type 0
 AgreesTold view result None reading = Unit {0}
 AgreesTold view result (Some held) reading = Agrees view result (reading held)
+
+-- one reading for each of a list, in order, each on what the one before gave
+abbrev pub fold_in : {A X : Type 0} → (A → X → Reading A) → A → List X → Reading A
+fold_in step value [] = known (Ok value)
+fold_in step value (x ∷ xs) = and_then (step value x) (λ next. fold_in step next xs)

@@ -2,13 +2,14 @@
 use Rattle.std.specs.Prelude.{ℕ, List, [], ◌∷◌, Option, Some, None, codes, if◌then◌else◌}
 use Rattle.std.specs.Str.{bytes_eq}
 
--- `run CATALOG STATEMENT`
-pub record RunWords : Type 0 where
-  pub catalogue : List ℕ
-  pub statement : List ℕ
+-- the forms that are built, with the names of files that they give
+pub data Command : Type 0 where
+  -- `run CATALOG STATEMENT`
+  Run : List ℕ → List ℕ → Command
+  -- `check CATALOG`
+  Check : List ℕ → Command
 
--- the one form that is built
-abbrev pub run_words : List (List ℕ) → Option RunWords
-run_words (verb ∷ catalogue ∷ statement ∷ []) =
-    if bytes_eq verb (codes "run") then Some (record { catalogue = catalogue; statement = statement }) else None
-run_words _ = None
+abbrev pub command_of : List (List ℕ) → Option Command
+command_of (verb ∷ catalogue ∷ statement ∷ []) = if bytes_eq verb (codes "run") then Some (Run catalogue statement) else None
+command_of (verb ∷ catalogue ∷ []) = if bytes_eq verb (codes "check") then Some (Check catalogue) else None
+command_of _ = None

@@ -1,26 +1,31 @@
-ghost use Rattle.std.specs.Prelude.{◌≡◌, ◌≢◌, ◌<◌, ◌⊎◌, All, Err, IfErr, IfOk, None, Some, length, map, string_bytes};
+ghost use Rattle.std.specs.Prelude.{◌≡◌, ◌≢◌, ◌⊎◌, [], Err, IfErr, IfOk, None, Some, map, string_bytes};
 ghost use Rattle.jp_catalog.specs.Sound.{IsSound};
 ghost use Rattle.jp_io.specs.Files.{NoneFalls};
-ghost use Rattle.jp_table.specs.First.{IsFirstCatalog, IsFirstTable};
-ghost use Rattle.joinplan.specs.Answers.{answer_of, output_in, printed, query_in, run_in};
+ghost use Rattle.jp_naive.specs.Built.{AllLoaded, IsBuilt, IsTypedOver};
+ghost use Rattle.jp_query.specs.Conditions.{IsBounded, IsTyped};
+ghost use Rattle.jp_query.specs.Freshness.{IsFresh};
+ghost use Rattle.jp_resolve.specs.Schemas.{schema_of};
+ghost use Rattle.joinplan.specs.Answers.{answer_of, check_in, command_in, output_in, printed, query_in, run_in};
 ghost use Rattle.joinplan.specs.Faults.{IsExplained, IsTableFile, MayBeRead};
-ghost use Rattle.joinplan.specs.Meaning.{IsUsable};
 ghost use Rattle.joinplan.specs.Readings.{AgreesTold};
 ghost use Rattle.joinplan.specs.declared.refusal.Refusal.TheVariants as refusal;
-ghost use Rattle.joinplan.specs.Selections.{IsPlaced};
-ghost use Rattle.joinplan.specs.Views.{run_view, selection_view};
-ghost use Rattle.joinplan.specs.Words.{run_words};
+ghost use Rattle.joinplan.specs.Views.{command_view};
+ghost use Rattle.joinplan.specs.Words as spec;
+ghost use Rattle.joinplan.specs.Words.{command_of};
 
-use crate::filter::select_rows;
+use crate::checking::count_rows;
 use crate::output::print_rows;
-use crate::reading::{read_catalogue, read_statement, read_table};
+use crate::reading::{read_catalogue, read_statement};
 use crate::refusal::Refusal;
-use crate::selection::{Selection, selection_of};
-use crate::words::{Run, run_words};
+use crate::tables::read_tables;
+use crate::words::{Command, command_of};
 use jp_base::Memory;
 use jp_catalog::Catalog;
 use jp_io::Files;
-use jp_table::Table;
+use jp_naive::meaning_of;
+use jp_query::Query;
+use jp_resolve::{ResolveError, resolve_first};
+use jp_table::Tables;
 use std::alloc::Global;
 
 /// All of the output, made before any of it is written.
@@ -28,24 +33,59 @@ pub fn answer<F: Files>(alloc: Global, words: &[String], files: &mut F) -> Resul
     ensures same { F.contents files.new ≡ F.contents files.old }
     ensures kept { NoneFalls (F.faults files.old) (F.faults files.new) }
     ensures told { AgreesTold (λ v. v.items) result (F.contents files.old) (answer_of (map string_bytes words.now)) }
-    ensures explained { run_words (map string_bytes words.now) ≢ None → IfErr result (IsExplained (MayBeRead (run_words (map string_bytes words.now))) (F.faults files.old) (F.faults files.new)) }
-    ensures usage { run_words (map string_bytes words.now) ≡ None → result ≡ Err refusal.Usage }
+    ensures explained { command_of (map string_bytes words.now) ≢ None → IfErr result (IsExplained (MayBeRead (command_of (map string_bytes words.now))) (F.faults files.old) (F.faults files.new)) }
+    ensures usage { command_of (map string_bytes words.now) ≡ None → result ≡ Err refusal.Usage }
 {
-    match run_words(words) {
-        Some(run) => answer_run(alloc, &run, files),
+    match command_of(words) {
+        Some(command) => answer_command(alloc, command, files),
         None => Err(Refusal::Usage),
     }
 }
 
-/// The output of `run CATALOG STATEMENT`.
-fn answer_run<F: Files>(alloc: Global, run: &Run, files: &mut F) -> Result<Vec<u8>, Refusal>
+fn answer_command<F: Files>(
+    alloc: Global,
+    command: Command<'_>,
+    files: &mut F,
+) -> Result<Vec<u8>, Refusal>
     ensures same { F.contents files.new ≡ F.contents files.old }
     ensures kept { NoneFalls (F.faults files.old) (F.faults files.new) }
-    ensures told { AgreesTold (λ v. v.items) result (F.contents files.old) (run_in (run_view run.now)) }
-    ensures explained { IfErr result (IsExplained (MayBeRead (Some (run_view run.now))) (F.faults files.old) (F.faults files.new)) }
+    ensures told { AgreesTold (λ v. v.items) result (F.contents files.old) (command_in (command_view command.entry)) }
+    ensures explained { IfErr result (IsExplained (MayBeRead (Some (command_view command.entry))) (F.faults files.old) (F.faults files.new)) }
 {
-    let catalog = read_catalogue(alloc, files, run.catalogue)?;
-    answer_query(alloc, &catalog, run.statement, files)
+    match command {
+        Command::Run {
+            catalogue,
+            statement,
+        } => answer_run(alloc, catalogue, statement, files),
+        Command::Check { catalogue } => answer_check(alloc, catalogue, files),
+    }
+}
+
+/// The output of `run CATALOG STATEMENT`.
+fn answer_run<F: Files>(
+    alloc: Global,
+    catalogue: &str,
+    statement: &str,
+    files: &mut F,
+) -> Result<Vec<u8>, Refusal>
+    ensures same { F.contents files.new ≡ F.contents files.old }
+    ensures kept { NoneFalls (F.faults files.old) (F.faults files.new) }
+    ensures told { AgreesTold (λ v. v.items) result (F.contents files.old) (run_in catalogue.now statement.now) }
+    ensures explained { IfErr result (IsExplained (MayBeRead (Some (spec.Run catalogue.now statement.now))) (F.faults files.old) (F.faults files.new)) }
+{
+    let catalog = read_catalogue(alloc, files, catalogue)?;
+    answer_query(alloc, &catalog, statement, files)
+}
+
+/// The output of `check CATALOG`.
+fn answer_check<F: Files>(alloc: Global, catalogue: &str, files: &mut F) -> Result<Vec<u8>, Refusal>
+    ensures same { F.contents files.new ≡ F.contents files.old }
+    ensures kept { NoneFalls (F.faults files.old) (F.faults files.new) }
+    ensures told { AgreesTold (λ v. v.items) result (F.contents files.old) (check_in catalogue.now) }
+    ensures explained { IfErr result (IsExplained (MayBeRead (Some (spec.Check catalogue.now))) (F.faults files.old) (F.faults files.new)) }
+{
+    let catalog = read_catalogue(alloc, files, catalogue)?;
+    count_rows(alloc, files, &catalog)
 }
 
 /// The output of the statement in a file, over the tables of the catalogue.
@@ -55,47 +95,51 @@ fn answer_query<F: Files>(
     statement: &str,
     files: &mut F,
 ) -> Result<Vec<u8>, Refusal>
-    requires sound { IsSound catalog.now }
-    requires first { IsFirstCatalog catalog.now }
+    requires { IsSound catalog.now }
     ensures same { F.contents files.new ≡ F.contents files.old }
     ensures kept { NoneFalls (F.faults files.old) (F.faults files.new) }
     ensures told { AgreesTold (λ v. v.items) result (F.contents files.old) (λ held. query_in held statement.now catalog.now) }
     ensures explained { IfErr result (IsExplained (λ n. (n ≡ statement.now) ⊎ IsTableFile catalog.now n) (F.faults files.old) (F.faults files.new)) }
 {
     let stmt = read_statement(alloc, files, statement)?;
-    let Some(selection) = selection_of(catalog, &stmt) else {
-        return Err(Refusal::NotBuilt);
-    };
-    answer_selection(alloc, &selection, files)
-}
-
-/// The output of a selection.
-fn answer_selection<F: Files>(
-    alloc: Global,
-    selection: &Selection,
-    files: &mut F,
-) -> Result<Vec<u8>, Refusal>
-    requires first { IsFirstTable selection.now.def.now }
-    requires column { selection.now.column < length selection.now.def.now.columns }
-    requires tested { selection.now.tested < length selection.now.def.now.columns }
-    ensures same { F.contents files.new ≡ F.contents files.old }
-    ensures kept { NoneFalls (F.faults files.old) (F.faults files.new) }
-    ensures told { AgreesTold (λ v. v.items) result (F.contents files.old) (λ held. output_in held (selection_view selection.now)) }
-    ensures explained { IfErr result (IsExplained (λ n. n ≡ selection.now.def.now.file) (F.faults files.old) (F.faults files.new)) }
-{
-    let table = read_table(alloc, files, selection)?;
-    match print_selected(alloc, &table, selection) {
-        Ok(bytes) => Ok(bytes),
-        Err(Memory) => Err(Refusal::Memory),
+    match resolve_first(alloc, catalog, &stmt) {
+        Ok(query) => answer_resolved(alloc, catalog, &query, files),
+        Err(ResolveError::NotBuilt) => Err(Refusal::NotBuilt),
+        Err(ResolveError::Memory) => Err(Refusal::Memory),
     }
 }
 
-/// The rows of a table that a selection keeps, printed.
-fn print_selected(alloc: Global, table: &Table, selection: &Selection) -> Result<Vec<u8>, Memory>
-    requires { All (IsUsable (selection_view selection.now)) table.now }
-    ensures { IfOk result (λ v. v.items ≡ printed (selection_view selection.now) table.now) }
+/// The output of a query.
+fn answer_resolved<F: Files>(
+    alloc: Global,
+    catalog: &Catalog,
+    query: &Query,
+    files: &mut F,
+) -> Result<Vec<u8>, Refusal>
+    requires sound { IsSound catalog.now }
+    requires typed { IsTyped (schema_of catalog.now) [] query.now }
+    requires bounded { IsBounded (schema_of catalog.now) [] query.now }
+    requires fresh { IsFresh query.now }
+    requires built { IsBuilt query.now }
+    ensures same { F.contents files.new ≡ F.contents files.old }
+    ensures kept { NoneFalls (F.faults files.old) (F.faults files.new) }
+    ensures told { AgreesTold (λ v. v.items) result (F.contents files.old) (λ held. output_in held catalog.now query.now) }
+    ensures explained { IfErr result (IsExplained (IsTableFile catalog.now) (F.faults files.old) (F.faults files.new)) }
 {
-    let rows = select_rows(alloc, table, selection)?;
-    let bytes = print_rows(alloc, &[selection.parts.label], rows.as_slice())?;
+    let tables = read_tables(alloc, files, catalog, query)?;
+    let bytes = print_meaning(alloc, query, &tables)?;
+    Ok(bytes)
+}
+
+/// The rows of a query over loaded tables, printed.
+fn print_meaning(alloc: Global, query: &Query, tables: &Tables) -> Result<Vec<u8>, Memory>
+    requires typed { IsTypedOver tables.now.list query.now }
+    requires fresh { IsFresh query.now }
+    requires loaded { AllLoaded tables.now.list query.now }
+    requires built { IsBuilt query.now }
+    ensures { IfOk result (λ v. v.items ≡ printed query.now tables.now.list) }
+{
+    let rows = meaning_of(alloc, query, tables)?;
+    let bytes = print_rows(alloc, query.columns.as_slice(), rows.as_slice())?;
     Ok(bytes)
 }

@@ -2,12 +2,11 @@
 #![tactic(auto)]
 
 mod answer;
-mod filter;
+mod checking;
 mod output;
-mod parts;
 mod reading;
 mod refusal;
-mod selection;
+mod tables;
 #[cfg(test)]
 mod tests;
 mod top;

@@ -2,23 +2,25 @@ ghost use Rattle.std.specs.Prelude.{◌≡◌, ℕ, List, [], ◌∷◌, ◌++�
 ghost use Rattle.csv.specs.Records.{fields_of, partial_of};
 ghost use Rattle.csv.specs.Writing.{default_writer, row_text};
 ghost use Rattle.std.specs.List.{flat_map};
+ghost use Rattle.joinplan.specs.Answers.{name_of};
 ghost use Rattle.joinplan.specs.Output.{field_of, output_text, record_text};
 ghost use Rattle.joinplan.specs.Writers.{HasWritten};
 
 use csv::{ByteRecord, Writer, WriterBuilder};
 use itoa::Buffer;
 use jp_base::{Memory, Row, Value};
+use jp_query::Output;
 use std::alloc::Global;
 
 /// The record of the output names, and one record for each row.
-pub fn print_rows(alloc: Global, names: &[&str], rows: &[Row]) -> Result<Vec<u8>, Memory>
-    ensures { IfOk result (λ v. v.items ≡ output_text (map (λ name. name.now) names.now) rows.now) }
+pub fn print_rows(alloc: Global, columns: &[Output], rows: &[Row]) -> Result<Vec<u8>, Memory>
+    ensures { IfOk result (λ v. v.items ≡ output_text (map name_of columns.now) rows.now) }
 {
     let mut writer = WriterBuilder::new()
         .flexible(true)
         .from_writer(Vec::new(alloc));
     let mut fields = ByteRecord::new(alloc);
-    push_names(&mut fields, names)?;
+    push_names(&mut fields, columns)?;
     write_record(&mut writer, &fields)?;
     write_rows(&mut writer, &mut fields, rows)?;
     match writer.into_inner() {
@@ -52,12 +54,12 @@ fn write_record(writer: &mut Writer<Vec<u8>>, fields: &ByteRecord) -> Result<(),
     Ok(())
 }
 
-fn push_names(fields: &mut ByteRecord, names: &[&str]) -> Result<(), Memory>
+fn push_names(fields: &mut ByteRecord, columns: &[Output]) -> Result<(), Memory>
     requires { partial_of fields.old ≡ [] }
-    ensures { OnOk result (fields_of fields.new ≡ fields_of fields.old ++ map (λ name. name.now) names.now) }
+    ensures { OnOk result (fields_of fields.new ≡ fields_of fields.old ++ map name_of columns.now) }
 {
-    for name in names {
-        push_field(fields, name.as_bytes())?;
+    for column in columns {
+        push_field(fields, column.name.as_str().as_bytes())?;
     }
     Ok(())
 }

@@ -1,22 +1,22 @@
-ghost use Rattle.std.specs.Prelude.{◌≡◌, ◌<◌, ◌≤◌, ℕ, List, All, Err, IfErr, IfOk, Some, length};
-ghost use Rattle.jp_catalog.specs.Sound.{IsSound};
+ghost use Rattle.std.specs.Prelude.{◌≡◌, ◌≤◌, ℕ, List, All, IfErr, IfOk, Ok, length};
+ghost use Rattle.jp_catalog.specs.Reading.{catalogue_of};
+ghost use Rattle.jp_catalog.specs.Sound.{IsSound, IsSoundTable};
 ghost use Rattle.jp_io.specs.Files.{NoneFalls};
-ghost use Rattle.jp_table.specs.First.{IsFirstCatalog, IsFirstTable, first_catalogue};
+ghost use Rattle.jp_table.specs.Keys.{KeysHold};
+ghost use Rattle.jp_table.specs.Loading.{column_types};
+ghost use Rattle.jp_table.specs.Rows.{IsRowOf};
 ghost use Rattle.joinplan.specs.Answers.{catalogue_in, source_in, statement_in, table_in, text_in};
 ghost use Rattle.joinplan.specs.Faults.{IsExplained};
-ghost use Rattle.joinplan.specs.Meaning.{IsUsable};
 ghost use Rattle.joinplan.specs.Readings.{AgreesTold};
 ghost use Rattle.joinplan.specs.Refusals.{IsNamed};
-ghost use Rattle.joinplan.specs.Views.{selection_view};
 ghost use Rattle.joinplan.specs.declared.refusal.Refusal.TheVariants as refusal;
 
 use crate::refusal::Refusal;
-use crate::selection::Selection;
 use jp_base::{Memory, Txt};
-use jp_catalog::Catalog;
+use jp_catalog::{Catalog, CatalogError, TableDef, read_catalog};
 use jp_io::{FileError, Files, read_file};
-use jp_parse::{FirstError as StatementError, Stmt, parse_first};
-use jp_table::{FirstError as CatalogueError, Table, TableError, load, read_first};
+use jp_parse::{FirstError, Stmt, parse_first};
+use jp_table::{Table, TableError, load};
 use std::alloc::Global;
 
 /// How many bytes a file may have that isn't a statement.
@@ -74,11 +74,11 @@ fn too_large(alloc: Global, name: &str) -> Refusal
     }
 }
 
-fn data_refused(alloc: Global, table: &str) -> Refusal
-    ensures { IsNamed refusal.Data table.now result }
+fn data_refused(alloc: Global, table: &str, error: TableError) -> Refusal
+    ensures { IsNamed (λ name. refusal.Data name error) table.now result }
 {
     match Txt::new(alloc, table) {
-        Ok(table) => Refusal::Data(table),
+        Ok(table) => Refusal::Data(table, error),
         Err(Memory) => Refusal::Memory,
     }
 }
@@ -94,14 +94,13 @@ pub fn read_catalogue<F: Files>(
     ensures told { AgreesTold (λ c. c) result (F.contents files.old) (λ held. catalogue_in held name.now) }
     ensures explained { IfErr result (IsExplained (λ n. n ≡ name.now) (F.faults files.old) (F.faults files.new)) }
     ensures sound { IfOk result IsSound }
-    ensures first { IfOk result IsFirstCatalog }
-    ensures read { IfOk result (λ c. (bytes : List ℕ) × (first_catalogue bytes ≡ Some c)) }
+    ensures read { IfOk result (λ c. (bytes : List ℕ) × (catalogue_of bytes ≡ Ok c)) }
 {
     let bytes = read_text(alloc, files, name)?;
-    match read_first(alloc, bytes.as_slice()) {
+    match read_catalog(alloc, bytes.as_slice()) {
         Ok(catalog) => Ok(catalog),
-        Err(CatalogueError::NotBuilt) => Err(Refusal::Catalogue),
-        Err(CatalogueError::Memory) => Err(Refusal::Memory),
+        Err(CatalogError::Memory) => Err(Refusal::Memory),
+        Err(error) => Err(Refusal::Catalogue(error)),
     }
 }
 
@@ -115,30 +114,30 @@ pub fn read_statement<F: Files>(alloc: Global, files: &mut F, name: &str) -> Res
     let source = read_source(alloc, files, name)?;
     match parse_first(alloc, source.as_slice()) {
         Ok(stmt) => Ok(stmt),
-        Err(StatementError::NotBuilt) => Err(Refusal::NotBuilt),
-        Err(StatementError::Memory) => Err(Refusal::Memory),
+        Err(FirstError::NotBuilt) => Err(Refusal::NotBuilt),
+        Err(FirstError::Memory) => Err(Refusal::Memory),
     }
 }
 
-/// Reads and loads the table of a selection.
+/// Reads and loads a table. Its rows fit its columns, and its keys hold.
 pub fn read_table<F: Files>(
     alloc: Global,
     files: &mut F,
-    selection: &Selection,
+    name: &str,
+    def: &TableDef,
 ) -> Result<Table, Refusal>
-    requires first { IsFirstTable selection.now.def.now }
-    requires column { selection.now.column < length selection.now.def.now.columns }
-    requires tested { selection.now.tested < length selection.now.def.now.columns }
+    requires { IsSoundTable def.now }
     ensures same { F.contents files.new ≡ F.contents files.old }
     ensures kept { NoneFalls (F.faults files.old) (F.faults files.new) }
-    ensures told { AgreesTold (λ t. t) result (F.contents files.old) (λ held. table_in held (selection_view selection.now)) }
-    ensures explained { IfErr result (IsExplained (λ n. n ≡ selection.now.def.now.file) (F.faults files.old) (F.faults files.new)) }
-    ensures usable { IfOk result (λ t. All (IsUsable (selection_view selection.now)) t) }
+    ensures told { AgreesTold (λ t. t) result (F.contents files.old) (λ held. table_in held (name.now, def.now)) }
+    ensures explained { IfErr result (IsExplained (λ n. n ≡ def.now.file) (F.faults files.old) (F.faults files.new)) }
+    ensures fits { IfOk result (λ t. All (IsRowOf (column_types def.now)) t) }
+    ensures keys { IfOk result (KeysHold def.now) }
 {
-    let bytes = read_text(alloc, files, selection.def.file.as_str())?;
-    match load(alloc, selection.def, bytes.as_slice()) {
+    let bytes = read_text(alloc, files, def.file.as_str())?;
+    match load(alloc, def, bytes.as_slice()) {
         Ok(table) => Ok(table),
-        Err(TableError::Refused) => Err(data_refused(alloc, selection.parts.table)),
         Err(TableError::Memory) => Err(Refusal::Memory),
+        Err(error) => Err(data_refused(alloc, name, error)),
     }
 }

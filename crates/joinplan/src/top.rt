@@ -2,7 +2,7 @@ ghost use Rattle.std.specs.Prelude.{◌≡◌, ◌≢◌, ◌≤◌, ◌⊎◌, 
 ghost use Rattle.jp_io.specs.Sinks.{Rose, TookMore};
 ghost use Rattle.joinplan.specs.Headline.{PrintsAnswer};
 ghost use Rattle.joinplan.specs.Outcomes.{ComesExactly, FaultIn, IsReported, NoFault, WroteAll, WrotePart, answer_told};
-ghost use Rattle.joinplan.specs.Words.{run_words};
+ghost use Rattle.joinplan.specs.Words.{command_of};
 
 use crate::answer::answer;
 use crate::refusal::Refusal;
@@ -20,12 +20,12 @@ pub fn joinplan<F: Files, O: Sink, E: Sink>(
 ) -> u8
     // The status, by its cause.
     ensures range { result ≤ 8 }
-    ensures usage { (result ≡ 1) ↔ (run_words (map string_bytes words.now) ≡ None) }
+    ensures usage { (result ≡ 1) ↔ (command_of (map string_bytes words.now) ≡ None) }
     ensures catalogue { ComesExactly 2 (answer_told (map string_bytes words.now) (F.contents files.old)) result (F.faults files.old) (F.faults files.new) }
     ensures table { ComesExactly 3 (answer_told (map string_bytes words.now) (F.contents files.old)) result (F.faults files.old) (F.faults files.new) }
     ensures statement { ComesExactly 4 (answer_told (map string_bytes words.now) (F.contents files.old)) result (F.faults files.old) (F.faults files.new) }
     ensures limit { ComesExactly 5 (answer_told (map string_bytes words.now) (F.contents files.old)) result (F.faults files.old) (F.faults files.new) }
-    ensures read_fault { result ≡ 6 → FaultIn (answer_told (map string_bytes words.now) (F.contents files.old)) (run_words (map string_bytes words.now)) (F.faults files.old) (F.faults files.new) }
+    ensures read_fault { result ≡ 6 → FaultIn (answer_told (map string_bytes words.now) (F.contents files.old)) (command_of (map string_bytes words.now)) (F.faults files.old) (F.faults files.new) }
     ensures write_fault { result ≡ 7 → Rose (O.faults out.old) (O.faults out.new) }
     ensures complete { IfSome (answer_told (map string_bytes words.now) (F.contents files.old)) (λ answer. IfOk answer.answer (λ bytes.
         NoFault answer.names (F.faults files.old) (F.faults files.new) → ¬ Rose (O.faults out.old) (O.faults out.new)

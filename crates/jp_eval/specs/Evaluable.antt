@@ -8,7 +8,7 @@ use Rattle.jp_query.specs.Conditions.{all_true}
 use Rattle.jp_query.specs.Meaning.{Row, Env, truth_given}
 
 -- columns, literals, placeholders, comparisons, AND, OR, NOT and IS, and no other node
-abbrev pub evaluable_level : Expr-F Bool (Unit {0}) (Unit {0}) (Unit {0}) (Unit {0}) → Bool
+abbrev pub evaluable_level : {B C D F : Type 0} → Expr-F Bool B C D F → Bool
 evaluable_level (Expr-F.Col rel col ty nulled) = true
 evaluable_level (Expr-F.Lit v ty) = true
 evaluable_level (Expr-F.Place inner rels) = inner

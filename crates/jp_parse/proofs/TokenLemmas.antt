@@ -1,23 +1,15 @@
 -- How the tokens of a source go on from a place, and what the digits of a number write at least.
-use Rattle.std.proofs.Common.{◌≡◌, ℕ, zero, suc, ◌+◌, ◌-◌, ◌<◌, ◌≤◌, true, false, List, [], ◌∷◌, ◌++◌, length, get_or, take, drop, fold, Option, Some, None, option_map, option_and_then, refl, sym, ◌∙◌, ap, append_assoc, arith}
+use Rattle.std.proofs.Common.{◌≡◌, ℕ, zero, suc, ◌+◌, ◌-◌, ◌<◌, ◌≤◌, true, false, List, [], ◌∷◌, ◌++◌, length, get_or, take, drop, fold, Option, Some, None, option_map, option_and_then, refl, sym, ◌∙◌, ap, arith}
 use Rattle.std.proofs.lemmas.List.{drop_more, drop_all, drop-drop, append-nil, take-append-drop}
 use Rattle.std.proofs.lemmas.List.Sums.{fold-append}
 use Rattle.std.proofs.lemmas.Bool.Decides.{nat_tests}
 use Rattle.jp_parse.specs.declared.tokens.Token.{Token}
 use Rattle.jp_parse.specs.declared.tokens.What.{What}
 use Rattle.jp_lex.specs.Chars.{is_white}
+use Rattle.jp_parse.proofs.Fronts.{with_front, front_more}
 use Rattle.jp_parse.specs.Tokens.{Cut, token_of, tokens_from, placed, behind, with_digit, number_of_digits, limited}
 
 -- ---- tokens
-
--- the tokens of a source, where those before a place are found already
-abbrev pub with_front : List Token → Option (List Token) → Option (List Token)
-with_front front tokens = option_map (λ more. front ++ more) tokens
-
-front_more : (front : List Token) (token : Token) (more : Option (List Token)) →
-    with_front front (option_map (behind token) more) ≡ with_front (front ++ token ∷ []) more
-front_more front token None = refl
-front_more front token (Some more) = ap Some (sym (append_assoc front (token ∷ []) more))
 
 taken-drop : (at taken : ℕ) (bytes : List ℕ) → tokens_from at taken bytes ≡ tokens_from (at + taken) 0 (drop taken bytes)
 unfolding tokens_from

@@ -1,22 +1,22 @@
--- The form of statement that is read: SELECT name FROM name WHERE name op NUMBER [;].
-use Rattle.std.specs.Prelude.{◌≡◌, ℕ, ℤ, Bool, true, false, ◌&&◌, List, [], ◌∷◌, Option, Some, None, option_map, option_and_then, Result, Ok, Err, if◌then◌else◌}
+-- The form of statement that is read:
+-- SELECT column {, column} FROM table { [INNER | LEFT [OUTER]] JOIN table ON cond } [WHERE cond] [;]
+use Rattle.std.specs.Prelude.{◌≡◌, ℕ, false, List, [], ◌∷◌, Option, Some, None, option_map, option_and_then, Result, Ok, Err, if◌then◌else◌}
 use Rattle.jp_parse.specs.declared.tree.Stmt.{Stmt}
 use Rattle.jp_parse.specs.declared.tree.Select.{roll-Select}
 use Rattle.jp_parse.specs.declared.tree.Ast.{Ast}
-use Rattle.jp_parse.specs.declared.tree.Ast.TheVariants as ast
+use Rattle.jp_parse.specs.declared.tree.Target.{Target}
 use Rattle.jp_parse.specs.declared.tree.Target.TheVariants as target
 use Rattle.jp_parse.specs.declared.tree.FromItem.{FromItem}
 use Rattle.jp_parse.specs.declared.tree.FromItem.TheVariants as item
-use Rattle.jp_parse.specs.declared.tree.CmpWord.{CmpWord}
-use Rattle.jp_parse.specs.declared.words.Word.{Word}
-use Rattle.jp_parse.specs.declared.words.Word.TheVariants.{Select, From, Where}
+use Rattle.jp_parse.specs.declared.tree.JoinWord.{JoinWord}
+use Rattle.jp_parse.specs.declared.cuts.Separator.TheVariants as separator
+use Rattle.jp_parse.specs.declared.words.Word.TheVariants as word
 use Rattle.jp_parse.specs.declared.tokens.Token.{Token}
-use Rattle.jp_parse.specs.declared.tokens.What.{What}
-use Rattle.jp_parse.specs.declared.tokens.What.TheVariants as what
 use Rattle.jp_parse.specs.declared.errors.FirstError.{FirstError}
 use Rattle.jp_parse.specs.declared.errors.FirstError.TheVariants.{NotBuilt, Memory}
-use Rattle.jp_parse.specs.Words.{same_word}
 use Rattle.jp_parse.specs.Tokens.{tokens_of}
+use Rattle.jp_parse.specs.Cuts.{is_word, Cut, cut_at, pieces, all_of, joins_of}
+use Rattle.jp_parse.specs.Conditions.{name_in, place, column_of, cond_of}
 
 -- The answer is the defined one. Want of memory may come at any time.
 abbrev pub Agrees : {A : Type 0} → Result A FirstError → Option A → Type 0
@@ -24,65 +24,101 @@ Agrees (Ok value) defined = defined ≡ Some value
 Agrees (Err NotBuilt) defined = defined ≡ None
 Agrees (Err Memory) defined = Unit {0}
 
--- ---- the parts
+-- ---- the select list
 
-abbrev pub is_word : Word → What → Bool
-is_word word (what.Word found) = same_word found word
-is_word word _ = false
+-- a column without an alias
+abbrev pub target_of : List Token → Option Target
+target_of tokens = option_map (λ column. target.One column None) (column_of tokens)
 
-abbrev pub name_in : What → Option (List ℕ)
-name_in (what.Name name) = Some name
-name_in _ = None
+-- the columns between the commas
+unfoldable pub targets_of : List Token → Option (List Target)
+targets_of tokens = all_of target_of (pieces separator.Comma tokens)
 
-abbrev pub number_in : What → Option ℤ
-number_in (what.Number value) = Some value
-number_in _ = None
-
-abbrev pub op_in : What → Option CmpWord
-op_in (what.Compare op) = Some op
-op_in _ = None
-
--- the end of the statement: nothing, or one semicolon
-abbrev pub is_end : List Token → Bool
-is_end [] = true
-is_end (token ∷ []) = is_semicolon token.what
-  where
-    is_semicolon : What → Bool
-    is_semicolon what.Semicolon = true
-    is_semicolon _ = false
-is_end _ = false
-
--- a column by its name
-unfoldable pub column_of : Token → Option Ast
-column_of token = option_map (λ name. ast.Name name token.at) (name_in token.what)
-
-unfoldable pub number_of : Token → Option Ast
-number_of token = option_map (λ value. ast.Number value token.at) (number_in token.what)
+-- ---- the tables
 
 -- a table by its name
-unfoldable pub table_of : Token → Option FromItem
-table_of token = option_map (λ name. item.Table name None token.at) (name_in token.what)
+unfoldable pub named_table : Token → Option FromItem
+named_table name = option_map (λ table. item.Table table None name.at) (name_in name.what)
 
--- a column, the operator and a number. Its place is the column's.
-unfoldable pub comparison_of : Token → Token → Token → Option Ast
-comparison_of left op right =
-    option_and_then (λ column. option_and_then (λ word. option_map (λ number. ast.Compare word column number left.at) (number_of right)) (op_in op.what)) (column_of left)
+-- a table by its name, with its alias
+unfoldable pub aliased_table : Token → Token → Option FromItem
+aliased_table name alias =
+    option_and_then (λ table. option_map (λ other. item.Table table (Some other) name.at) (name_in alias.what)) (name_in name.what)
 
--- SELECT column FROM table WHERE cond
-abbrev pub simple_select : Ast → FromItem → Ast → Stmt
-simple_select column table cond = record {
-  select = roll-Select (record { distinct = false; targets = target.One column None ∷ []; items = table ∷ []; cond = Some cond });
-  order = [];
-}
+-- name, name alias, or name AS alias
+unfoldable pub table_of : List Token → Option FromItem
+table_of (name ∷ []) = named_table name
+table_of (name ∷ alias ∷ []) = aliased_table name alias
+table_of (name ∷ between ∷ alias ∷ []) = if is_word word.As between.what then aliased_table name alias else None
+table_of _ = None
+
+abbrev pub join_node : JoinWord → ℕ → FromItem → FromItem → Ast → FromItem
+join_node kind at left right on = item.Join kind left right (Some on) at
+
+-- an item joined with what stands behind the join's words, cut at ON: table ON cond
+unfoldable pub join_by : ℕ → FromItem → JoinWord → Cut → Option FromItem
+join_by at left kind cut =
+    option_and_then (λ on. option_and_then (λ right. option_map (join_node kind at left right) (cond_of on)) (table_of cut.0)) cut.1
+
+-- an item joined with what stands behind the join's words
+abbrev pub join_of : ℕ → FromItem → JoinWord → List Token → Option FromItem
+join_of at left kind part = join_by at left kind (cut_at (separator.Word word.On) part)
+
+-- an item and the joins behind it, nested to the left
+abbrev pub joined : ℕ → FromItem → List (JoinWord × List Token) → Option FromItem
+joined at left [] = Some left
+joined at left (part ∷ parts) = option_and_then (λ both. joined at both parts) (join_of at left part.0 part.1)
+
+-- a table and the joins behind it
+unfoldable pub item_of : List Token → Option FromItem
+item_of tokens = option_and_then (λ table. joined (place tokens) table (joins_of tokens).1) (table_of (joins_of tokens).0)
 
 -- ---- the whole statement
 
+-- the condition of WHERE, where the word is there
+abbrev pub filter_of : Option (List Token) → Option (Option Ast)
+filter_of None = Some None
+filter_of (Some tokens) = option_map (λ cond. Some cond) (cond_of tokens)
+
+-- SELECT without DISTINCT and ORDER BY, of one item
+abbrev pub simple_select : List Target → FromItem → Option Ast → Stmt
+simple_select targets source cond = record {
+  select = roll-Select (record { distinct = false; targets = targets; items = source ∷ []; cond = cond });
+  order = [];
+}
+
+-- a select list, and what stands behind FROM, cut at WHERE
+unfoldable pub select_with : List Token → Cut → Option Stmt
+select_with list source =
+    option_and_then (λ targets. option_and_then (λ tables. option_map (simple_select targets tables) (filter_of source.1)) (item_of source.0)) (targets_of list)
+
+abbrev pub select_by : List Token → List Token → Option Stmt
+select_by list source = select_with list (cut_at (separator.Word word.Where) source)
+
+-- what stands behind SELECT, cut at FROM
+abbrev pub clauses_of : Cut → Option Stmt
+clauses_of cut = option_and_then (select_by cut.0) cut.1
+
+-- SELECT, and what stands behind it
+unfoldable pub select_of : List Token → Option Stmt
+select_of [] = None
+select_of (first ∷ rest) = if is_word word.Select first.what then clauses_of (cut_at (separator.Word word.From) rest) else None
+
+-- a statement cut at its semicolon, behind which nothing stands
+abbrev pub before_end : Cut → Option (List Token)
+before_end cut = ended cut.0 cut.1
+  where
+    ended : List Token → Option (List Token) → Option (List Token)
+    ended body None = Some body
+    ended body (Some []) = Some body
+    ended body (Some (token ∷ tokens)) = None
+
+-- a statement without its semicolon
+abbrev pub body_of : List Token → Option (List Token)
+body_of tokens = before_end (cut_at separator.Semicolon tokens)
+
 unfoldable pub statement_of_tokens : List Token → Option Stmt
-statement_of_tokens (select ∷ column ∷ from ∷ table ∷ where' ∷ left ∷ op ∷ right ∷ rest) =
-    if is_word Select select.what && is_word From from.what && is_word Where where'.what && is_end rest
-    then option_and_then (λ target. option_and_then (λ source. option_map (λ cond. simple_select target source cond) (comparison_of left op right)) (table_of table)) (column_of column)
-    else None
-statement_of_tokens _ = None
+statement_of_tokens tokens = option_and_then select_of (body_of tokens)
 
 -- the statement that the bytes of a source write
 unfoldable pub statement_of : List ℕ → Option Stmt

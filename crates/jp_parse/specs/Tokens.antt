@@ -49,7 +49,9 @@ symbol_of first second =
     if first == 61 then Some (what.Compare Eq, 1)
     else (if first == 60 then (if second == 62 then Some (what.Compare Ne, 2) else (if second == 61 then Some (what.Compare Le, 2) else Some (what.Compare Lt, 1)))
     else (if first == 62 then (if second == 61 then Some (what.Compare Ge, 2) else Some (what.Compare Gt, 1))
-    else (if first == 59 then Some (what.Semicolon, 1) else None)))
+    else (if first == 59 then Some (what.Semicolon, 1)
+    else (if first == 44 then Some (what.Comma, 1)
+    else (if first == 46 then Some (what.Dot, 1) else None)))))
 
 -- a length of 1, or 2 where there is a second byte
 abbrev pub IsShort : ℕ → ℕ → Type 0

@@ -4,18 +4,18 @@ use Rattle.std.specs.Str.{bytes_eq}
 use denote.Enum.Bare.{sameb}
 use Rattle.jp_parse.specs.contracts.words.Word.{the_type}
 use Rattle.jp_parse.specs.declared.words.Word.{Word}
-use Rattle.jp_parse.specs.declared.words.Word.TheVariants.{Select, From, Where, Other}
+use Rattle.jp_parse.specs.declared.words.Word.TheVariants.{Select, From, Where, And, As, Inner, Is, Join, Left, Not, Null, On, Or, Outer, Other}
 
 -- each reserved word in lower case, with what the form takes it for
 unfoldable pub reserved_words : List (List ℕ × Word)
 reserved_words = (codes "select", Select) ∷ (codes "from", From) ∷ (codes "where", Where)
-    ∷ (codes "all", Other) ∷ (codes "and", Other) ∷ (codes "as", Other) ∷ (codes "asc", Other) ∷ (codes "between", Other)
+    ∷ (codes "all", Other) ∷ (codes "and", And) ∷ (codes "as", As) ∷ (codes "asc", Other) ∷ (codes "between", Other)
     ∷ (codes "case", Other) ∷ (codes "coalesce", Other) ∷ (codes "cross", Other) ∷ (codes "desc", Other) ∷ (codes "distinct", Other)
     ∷ (codes "else", Other) ∷ (codes "end", Other) ∷ (codes "exists", Other) ∷ (codes "false", Other) ∷ (codes "full", Other)
-    ∷ (codes "group", Other) ∷ (codes "having", Other) ∷ (codes "in", Other) ∷ (codes "inner", Other) ∷ (codes "is", Other)
-    ∷ (codes "join", Other) ∷ (codes "lateral", Other) ∷ (codes "left", Other) ∷ (codes "limit", Other) ∷ (codes "natural", Other)
-    ∷ (codes "not", Other) ∷ (codes "null", Other) ∷ (codes "offset", Other) ∷ (codes "on", Other) ∷ (codes "or", Other)
-    ∷ (codes "order", Other) ∷ (codes "outer", Other) ∷ (codes "right", Other) ∷ (codes "then", Other) ∷ (codes "true", Other)
+    ∷ (codes "group", Other) ∷ (codes "having", Other) ∷ (codes "in", Other) ∷ (codes "inner", Inner) ∷ (codes "is", Is)
+    ∷ (codes "join", Join) ∷ (codes "lateral", Other) ∷ (codes "left", Left) ∷ (codes "limit", Other) ∷ (codes "natural", Other)
+    ∷ (codes "not", Not) ∷ (codes "null", Null) ∷ (codes "offset", Other) ∷ (codes "on", On) ∷ (codes "or", Or)
+    ∷ (codes "order", Other) ∷ (codes "outer", Outer) ∷ (codes "right", Other) ∷ (codes "then", Other) ∷ (codes "true", Other)
     ∷ (codes "union", Other) ∷ (codes "using", Other) ∷ (codes "when", Other) ∷ (codes "with", Other) ∷ []
 
 -- what stands beside the text in a table

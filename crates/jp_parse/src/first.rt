@@ -1,18 +1,21 @@
 //! Reads a source that has the first form of statement.
 
-ghost use Rattle.std.specs.Prelude.{◌≡◌, ◌≤◌, [], ◌∷◌, ◌&&◌, Bool, length, IfOk, Some};
+ghost use Rattle.std.specs.Prelude.{◌≡◌, ◌≤◌, [], ◌∷◌, length, option_map, IfOk};
 ghost use Rattle.jp_parse.specs.First as spec;
 ghost use Rattle.jp_parse.specs.First.{Agrees};
 
+use crate::conditions::{column_of, cond_of, name_in, place};
+use crate::cuts::{Separator, before_joins, cut, is_word, next_join};
 use crate::errors::FirstError;
-use crate::tokens::{Token, What, tokens_of};
-use crate::tree::{Ast, CmpWord, FromItem, Select, Stmt, Target};
-use crate::words::{Word, same_word};
-use jp_base::{Memory, Txt};
+use crate::tokens::{Token, tokens_of};
+use crate::tree::{Ast, FromItem, JoinWord, Select, Stmt, Target};
+use crate::words::Word;
+use jp_base::Memory;
 use sqlite_items::{Boxed, Items};
 use std::alloc::Global;
 
-/// The statement of a source of the form `SELECT name FROM name WHERE name op NUMBER [;]`.
+/// The statement of a source of the form
+/// `SELECT column {, column} FROM table {[INNER | LEFT [OUTER]] JOIN table ON cond} [WHERE cond] [;]`.
 #[tactic(auto, unfolding(crate::specs::First::statement_of))]
 pub fn parse_first(alloc: Global, src: &[u8]) -> Result<Stmt, FirstError>
     requires { length src.now ≤ 65536 }
@@ -23,133 +26,78 @@ pub fn parse_first(alloc: Global, src: &[u8]) -> Result<Stmt, FirstError>
     Ok(stmt)
 }
 
+/// What stands before the semicolon, behind which nothing may stand.
+fn before_end(tokens: &[Token]) -> Option<&[Token]>
+    ensures { option_map (λ ts. ts.now) result ≡ spec.body_of tokens.now }
+{
+    let (body, behind) = cut(Separator::Semicolon, tokens);
+    match behind {
+        None => Some(body),
+        Some([]) => Some(body),
+        Some(_) => None,
+    }
+}
+
 #[tactic(auto, unfolding(crate::specs::First::statement_of_tokens))]
 fn statement(alloc: Global, tokens: &[Token]) -> Result<Stmt, FirstError>
     ensures { Agrees result (spec.statement_of_tokens tokens.now) }
 {
-    let [
-        select,
-        column,
-        from,
-        table,
-        filter,
-        left,
-        op,
-        right,
-        rest @ ..,
-    ] = tokens
-    else {
+    let Some(body) = before_end(tokens) else {
         return Err(FirstError::NotBuilt);
     };
-    if !(is_word(Word::Select, select)
-        && is_word(Word::From, from)
-        && is_word(Word::Where, filter)
-        && is_end(rest))
-    {
-        return Err(FirstError::NotBuilt);
-    }
-    let column = column_of(alloc, column)?;
-    let table = table_of(alloc, table)?;
-    let cond = comparison_of(alloc, left, op, right)?;
-    let stmt = simple_select(alloc, column, table, cond)?;
+    let stmt = select_of(alloc, body)?;
     Ok(stmt)
 }
 
-fn is_word(word: Word, token: &Token) -> bool
-    ensures { result ≡ spec.is_word word token.now.what }
+#[tactic(auto, unfolding(crate::specs::First::select_of))]
+fn select_of(alloc: Global, tokens: &[Token]) -> Result<Stmt, FirstError>
+    ensures { Agrees result (spec.select_of tokens.now) }
 {
-    match &token.what {
-        What::Word(found) => same_word(*found, word),
-        _ => false,
+    let [first, rest @ ..] = tokens else {
+        return Err(FirstError::NotBuilt);
+    };
+    if !is_word(Word::Select, first) {
+        return Err(FirstError::NotBuilt);
     }
+    let (list, behind) = cut(Separator::Word(Word::From), rest);
+    let Some(source) = behind else {
+        return Err(FirstError::NotBuilt);
+    };
+    let stmt = select_by(alloc, list, source)?;
+    Ok(stmt)
 }
 
-/// Whether nothing but a semicolon is left.
-fn is_end(rest: &[Token]) -> bool
-    ensures { result ≡ spec.is_end rest.now }
+/// A statement of its select list and of what stands behind FROM.
+#[tactic(auto, unfolding(crate::specs::First::select_with))]
+fn select_by(alloc: Global, list: &[Token], source: &[Token]) -> Result<Stmt, FirstError>
+    ensures { Agrees result (spec.select_by list.now source.now) }
 {
-    match rest {
-        [] => true,
-        [token] => matches!(token.what, What::Semicolon),
-        _ => false,
-    }
+    let (tables, filter) = cut(Separator::Word(Word::Where), source);
+    let targets = targets_of(alloc, list)?;
+    let item = item_of(alloc, tables)?;
+    let cond = filter_of(alloc, filter)?;
+    let stmt = simple_select(alloc, targets, item, cond)?;
+    Ok(stmt)
 }
 
-#[tactic(auto, unfolding(crate::specs::First::column_of))]
-fn column_of(alloc: Global, token: &Token) -> Result<Ast, FirstError>
-    ensures { Agrees result (spec.column_of token.now) }
+fn simple_select(
+    alloc: Global,
+    targets: Items<Target>,
+    item: FromItem,
+    cond: Option<Ast>,
+) -> Result<Stmt, Memory>
+    ensures { IfOk result (λ stmt. stmt ≡ spec.simple_select targets item cond) }
 {
-    match &token.what {
-        What::Name(name) => {
-            let name = name.copy(alloc)?;
-            Ok(Ast::Name { name, at: token.at })
-        }
-        _ => Err(FirstError::NotBuilt),
-    }
-}
-
-#[tactic(auto, unfolding(crate::specs::First::table_of))]
-fn table_of(alloc: Global, token: &Token) -> Result<FromItem, FirstError>
-    ensures { Agrees result (spec.table_of token.now) }
-{
-    match &token.what {
-        What::Name(name) => {
-            let name = name.copy(alloc)?;
-            Ok(FromItem::Table {
-                name,
-                alias: None,
-                at: token.at,
-            })
-        }
-        _ => Err(FirstError::NotBuilt),
-    }
-}
-
-#[tactic(auto, unfolding(crate::specs::First::number_of))]
-fn number_of(token: &Token) -> Result<Ast, FirstError>
-    ensures { Agrees result (spec.number_of token.now) }
-{
-    match token.what {
-        What::Number(value) => Ok(Ast::Number {
-            value,
-            at: token.at,
-        }),
-        _ => Err(FirstError::NotBuilt),
-    }
-}
-
-fn op_of(token: &Token) -> Result<CmpWord, FirstError>
-    ensures { Agrees result (spec.op_in token.now.what) }
-{
-    match token.what {
-        What::Compare(op) => Ok(op),
-        _ => Err(FirstError::NotBuilt),
-    }
-}
-
-fn boxed(alloc: Global, ast: Ast) -> Result<Boxed<Ast>, Memory>
-    ensures { IfOk result (λ b. b ≡ ast) }
-{
-    match Boxed::new(alloc, ast) {
-        Ok(boxed) => Ok(boxed),
-        Err(_) => Err(Memory),
-    }
-}
-
-#[tactic(auto, unfolding(crate::specs::First::comparison_of))]
-fn comparison_of(alloc: Global, left: &Token, op: &Token, right: &Token) -> Result<Ast, FirstError>
-    ensures { Agrees result (spec.comparison_of left.now op.now right.now) }
-{
-    let column = column_of(alloc, left)?;
-    let op = op_of(op)?;
-    let number = number_of(right)?;
-    let column = boxed(alloc, column)?;
-    let number = boxed(alloc, number)?;
-    Ok(Ast::Compare {
-        op,
-        left: column,
-        right: number,
-        at: left.at,
+    let items = one(alloc, item)?;
+    let select = Select {
+        distinct: false,
+        targets,
+        items,
+        cond,
+    };
+    Ok(Stmt {
+        select,
+        order: Items::new(alloc),
     })
 }
 
@@ -163,23 +111,157 @@ fn one<T: Drop>(alloc: Global, item: T) -> Result<Items<T>, Memory>
     }
 }
 
-fn simple_select(alloc: Global, column: Ast, table: FromItem, cond: Ast) -> Result<Stmt, Memory>
-    ensures { IfOk result (λ stmt. stmt ≡ spec.simple_select column table cond) }
+/// The condition of WHERE, where the word is there.
+fn filter_of(alloc: Global, filter: Option<&[Token]>) -> Result<Option<Ast>, FirstError>
+    ensures { Agrees result (spec.filter_of (option_map (λ ts. ts.now) filter.entry)) }
 {
-    let target = Target::One {
-        expr: column,
+    match filter {
+        Some(tokens) => {
+            let cond = cond_of(alloc, tokens)?;
+            Ok(Some(cond))
+        }
+        None => Ok(None),
+    }
+}
+
+fn target_of(alloc: Global, tokens: &[Token]) -> Result<Target, FirstError>
+    ensures { Agrees result (spec.target_of tokens.now) }
+{
+    let expr = column_of(alloc, tokens)?;
+    Ok(Target::One { expr, alias: None })
+}
+
+#[tactic(auto, unfolding(crate::specs::First::targets_of))]
+fn targets_of(alloc: Global, tokens: &[Token]) -> Result<Items<Target>, FirstError>
+    ensures { Agrees result (spec.targets_of tokens.now) }
+{
+    let mut targets = Items::new(alloc);
+    let mut rest = Some(tokens);
+    'pieces: while let Some(left) = rest {
+        let (piece, behind) = cut(Separator::Comma, left);
+        let target = target_of(alloc, piece)?;
+        match targets.push(target) {
+            Ok(()) => {}
+            Err(_) => return Err(FirstError::Memory),
+        }
+        rest = behind;
+    }
+    Ok(targets)
+}
+
+#[tactic(auto, unfolding(crate::specs::First::named_table))]
+fn named_table(alloc: Global, name: &Token) -> Result<FromItem, FirstError>
+    ensures { Agrees result (spec.named_table name.now) }
+{
+    let table = name_in(alloc, name)?;
+    Ok(FromItem::Table {
+        name: table,
         alias: None,
-    };
-    let targets = one(alloc, target)?;
-    let items = one(alloc, table)?;
-    let select = Select {
-        distinct: false,
-        targets,
-        items,
-        cond: Some(cond),
-    };
-    Ok(Stmt {
-        select,
-        order: Items::new(alloc),
+        at: name.at,
     })
+}
+
+#[tactic(auto, unfolding(crate::specs::First::aliased_table))]
+fn aliased_table(alloc: Global, name: &Token, alias: &Token) -> Result<FromItem, FirstError>
+    ensures { Agrees result (spec.aliased_table name.now alias.now) }
+{
+    let table = name_in(alloc, name)?;
+    let alias = name_in(alloc, alias)?;
+    Ok(FromItem::Table {
+        name: table,
+        alias: Some(alias),
+        at: name.at,
+    })
+}
+
+/// A table with its alias, of its whole list of tokens.
+#[tactic(auto, unfolding(crate::specs::First::table_of))]
+fn table_of(alloc: Global, tokens: &[Token]) -> Result<FromItem, FirstError>
+    ensures { Agrees result (spec.table_of tokens.now) }
+{
+    match tokens {
+        [name] => {
+            let table = named_table(alloc, name)?;
+            Ok(table)
+        }
+        [name, alias] => {
+            let table = aliased_table(alloc, name, alias)?;
+            Ok(table)
+        }
+        [name, between, alias] => {
+            if !is_word(Word::As, between) {
+                return Err(FirstError::NotBuilt);
+            }
+            let table = aliased_table(alloc, name, alias)?;
+            Ok(table)
+        }
+        _ => Err(FirstError::NotBuilt),
+    }
+}
+
+fn boxed(alloc: Global, item: FromItem) -> Result<Boxed<FromItem>, Memory>
+    ensures { IfOk result (λ b. b ≡ item) }
+{
+    match Boxed::new(alloc, item) {
+        Ok(boxed) => Ok(boxed),
+        Err(_) => Err(Memory),
+    }
+}
+
+fn join_node(
+    alloc: Global,
+    kind: JoinWord,
+    left: FromItem,
+    right: FromItem,
+    on: Ast,
+    at: u32,
+) -> Result<FromItem, Memory>
+    ensures { IfOk result (λ node. node ≡ spec.join_node kind at left right on) }
+{
+    let left = boxed(alloc, left)?;
+    let right = boxed(alloc, right)?;
+    Ok(FromItem::Join {
+        kind,
+        left,
+        right,
+        on: Some(on),
+        at,
+    })
+}
+
+/// Joins an item with what stands behind the join's words.
+#[tactic(auto, unfolding(crate::specs::First::join_by))]
+fn join_of(
+    alloc: Global,
+    at: u32,
+    left: FromItem,
+    kind: JoinWord,
+    part: &[Token],
+) -> Result<FromItem, FirstError>
+    ensures { Agrees result (spec.join_of at left kind part.now) }
+{
+    let (table, behind) = cut(Separator::Word(Word::On), part);
+    let Some(on) = behind else {
+        return Err(FirstError::NotBuilt);
+    };
+    let right = table_of(alloc, table)?;
+    let cond = cond_of(alloc, on)?;
+    let node = join_node(alloc, kind, left, right, cond, at)?;
+    Ok(node)
+}
+
+/// A table with the joins behind it.
+#[tactic(auto, unfolding(crate::specs::First::item_of))]
+fn item_of(alloc: Global, tokens: &[Token]) -> Result<FromItem, FirstError>
+    ensures { Agrees result (spec.item_of tokens.now) }
+{
+    let at = place(tokens);
+    let (table, joins) = before_joins(tokens);
+    let mut item = table_of(alloc, table)?;
+    let mut rest = joins;
+    'joins: while let Some((kind, part, behind)) = next_join(rest) {
+        item = join_of(alloc, at, item, kind, part)?;
+        rest = behind;
+    }
+    Ok(item)
 }

@@ -1,6 +1,8 @@
 //! The grammar of statements: the syntax tree, and the reader that makes it of a source.
 #![tactic(auto)]
 
+mod conditions;
+mod cuts;
 mod errors;
 mod first;
 #[cfg(test)]

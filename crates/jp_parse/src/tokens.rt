@@ -34,6 +34,8 @@ pub enum What {
     Number(i128),
     Compare(CmpWord),
     Semicolon,
+    Comma,
+    Dot,
 }
 
 fn is_white(byte: u8) -> bool
@@ -167,6 +169,8 @@ fn symbol_of(first: u8, second: u8) -> Result<(What, usize), FirstError>
         (b'>', b'=') => Ok((What::Compare(CmpWord::Ge), 2)),
         (b'>', _) => Ok((What::Compare(CmpWord::Gt), 1)),
         (b';', _) => Ok((What::Semicolon, 1)),
+        (b',', _) => Ok((What::Comma, 1)),
+        (b'.', _) => Ok((What::Dot, 1)),
         _ => Err(FirstError::NotBuilt),
     }
 }

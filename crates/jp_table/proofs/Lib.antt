@@ -1,6 +1,10 @@
-pub mod FirstFacts
+pub mod JudgingFacts
+pub mod KeyFacts
 pub mod LoadingFacts
 pub mod NumberFacts
+pub mod PartFacts
 pub mod RecordFacts
 pub mod RowFacts
+pub mod RowKeys
 pub mod StorageFacts
+pub mod TextFacts

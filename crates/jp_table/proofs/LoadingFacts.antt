@@ -1,20 +1,24 @@
 -- Rows and records, one more at a time.
 use Rattle.std.proofs.Common.{◌≡◌, ◌≤◌, ◌<◌, ◌+◌, ℕ, zero, suc, Bool, true, false, ◌&&◌, List, [], ◌∷◌, ◌++◌, length, get_or, set, drop, map, Option, Some, None, Ok, Err, refl, sym, ap, ◌∙◌, arith, add-one, append_assoc}
 use Rattle.std.proofs.Math.Seq.{drop-cons}
-use Rattle.std.proofs.lemmas.Bool.{eqb-true}
+use Rattle.std.proofs.lemmas.Bool.{eqb-true, ne_eqb}
 use Rattle.std.proofs.Math.ListN.{get_or-map}
-use Rattle.std.proofs.lemmas.List.{append-nil, drop_all, length-append, length-map}
+use Rattle.std.proofs.lemmas.List.{append-nil, drop_all, length-append, length-map, set-get_or}
 use Rattle.std.specs.Cmp.Lexicographic.{pointwise}
-use Rattle.std.specs.Prelude.{◌==◌, IsErr, IsOkAnd, IsSomeAnd}
+use Rattle.std.specs.Prelude.{◌==◌, IsOkAnd, IsSomeAnd}
 use Rattle.std.specs.Str.{bytes_eq}
 use Rattle.jp_base.specs.declared.values.Value.{Value}
 use Rattle.jp_base.specs.declared.values.Ty.{Ty}
 use Rattle.jp_table.specs.Fields.{value_of_field}
-use Rattle.jp_table.specs.Loading.{◌>>=◌, Judged, column_names, column_types, row_read, rows_after, table_of, values_from}
+use Rattle.jp_table.specs.Judging.{Pass, after_keys, first_refusal, keys_hold, rows_read}
+use Rattle.jp_table.specs.Loading.{◌>>=◌, Judged, bad_field, column_names, column_types, row_read, table_of, values_from}
+use Rattle.jp_table.specs.declared.error.TableError.{TableError}
+use Rattle.jp_table.specs.declared.error.TableError.TheVariants as error
 use Rattle.csv.specs.Reading.{default_config, records, strip_bom}
 use Rattle.jp_catalog.specs.declared.types.TableDef.{TableDef}
-use Rattle.jp_table.specs.Storage.{AllHave, Stored, rows_of, types_of, with_row, with_value}
-use Rattle.jp_table.proofs.StorageFacts.{have-with_row, length-rows, next-with_row, rows-with_row, types-with_row, with_no_row, with_row_more}
+use Rattle.jp_table.specs.Storage.{AllHave, HasPart, HaveRows, Stored, rows_of, types_of, with_row, with_value}
+use Rattle.jp_table.proofs.JudgingFacts.{rows_judged}
+use Rattle.jp_table.proofs.StorageFacts.{have-with_part, have-with_row, length-with_row, next-with_row, rows-with_part, rows-with_row, types-with_row, with_no_row, with_row_more}
 
 -- the names of a header, from a place on
 pub names-at : (xs ys : List (List ℕ)) (i : ℕ) → i < length xs → i < length ys
@@ -66,7 +70,7 @@ values-more ts n fs row i d v whole h g e w =
 pub values-stop : (ts : List Ty) (n : ℕ) (fs : List (List ℕ)) (row : List Value) (i : ℕ) (d : Ty) (whole : Judged (List Value))
     → i < length ts → i < length fs → value_of_field (get_or ts i d) (get_or fs i []) ≡ None
     → whole ≡ after row (values_from (drop i ts) n (i + 1) (drop i fs))
-    → IsErr whole
+    → whole ≡ Err (bad_field (get_or ts i d) n (i + 1))
 values-stop ts n fs row i d whole h g e w =
     let a = drop-cons ts i d h in
     let b = drop-cons fs i [] g in
@@ -100,20 +104,6 @@ row_width ts n fs row e = at (length fs == length ts) refl
     at true t = values_width ts n 1 fs row (eqb-true (length fs) (length ts) t) (rw t at e)
     at false t = let stop = rw t at e in cc
 
--- one more row
-pub rows-next : (ts : List Ty) (rows : List (List Value)) (fields : List (List ℕ)) (more : List (List (List ℕ))) (row : List Value)
-    → row_read ts (length rows + 1) fields ≡ Ok row → rows_after ts [] rows (fields ∷ more) ≡ rows_after ts [] (rows ++ row ∷ []) more
-rows-next ts rows fields more row e = rw e refl
-
--- a record that gives none
-pub rows-stop : (ts : List Ty) (rows : List (List Value)) (fields : List (List ℕ)) (more : List (List (List ℕ)))
-    → IsErr (row_read ts (length rows + 1) fields) → IsErr (rows_after ts [] rows (fields ∷ more))
-rows-stop ts rows fields more h = at (row_read ts (length rows + 1) fields) refl
-  where
-    at : (j : Judged (List Value)) → row_read ts (length rows + 1) fields ≡ j → IsErr (rows_after ts [] rows (fields ∷ more))
-    at (Ok row) e = let never = rw e at h in cc
-    at (Err x) e = rw e refl
-
 -- the first fields are in their columns, and the others are left
 abbrev pub Pushed : List Stored → List (List ℕ) → ℕ → List Stored → Type 0
 Pushed before fs i columns =
@@ -122,6 +112,9 @@ Pushed before fs i columns =
 
 pub pushed-none : (before : List Stored) (fs : List (List ℕ)) → Pushed before fs 0 before
 pushed-none before fs = ([], refl, sym (with_no_row before), λ n. after-none (values_from (types_of before) n 1 fs))
+
+pub pushed_length : (before columns : List Stored) (fs : List (List ℕ)) (i : ℕ) → Pushed before fs i columns → length columns ≡ length before
+pushed_length before columns fs i p = ap length p.2 ∙ length-with_row before p.0
 
 -- the column that is next has its type from before
 next_type : (before columns : List Stored) (row : List Value) (i : ℕ) (c : Stored) → length row ≡ i → columns ≡ with_row before row → c ≡ get_or columns i c
@@ -150,44 +143,77 @@ pushed-more before columns fs i c next f p h l at field found = by (value_of_fie
           λ n. values-more (types_of before) n fs p.0 i c.0 v (values_from (types_of before) n 1 fs) (omega (arith, length-map before (λ (x : Stored). x.0))) (omega arith) value (p.3 n),
         )
 
-pub pushed-stop : (before columns : List Stored) (fs : List (List ℕ)) (i : ℕ) (c : Stored) (f : List ℕ) (n : ℕ)
+pub pushed-stop : (before columns after_it : List Stored) (fs : List (List ℕ)) (i : ℕ) (c next : Stored) (f : List ℕ) (n : ℕ)
     → Pushed before fs i columns → i < length before → length fs ≡ length before → c ≡ get_or columns i c → f ≡ get_or fs i []
-    → value_of_field c.0 f ≡ None → IsErr (values_from (types_of before) n 1 fs)
-pushed-stop before columns fs i c f n p h l at field e =
+    → value_of_field c.0 f ≡ None → next ≡ c → after_it ≡ set columns i next
+    → (values_from (types_of before) n 1 fs ≡ Err (bad_field c.0 n (i + 1))) × HasPart before after_it
+pushed-stop before columns after_it fs i c next f n p h l at field e same is =
     let type : get_or (types_of before) i c.0 ≡ c.0 = next_type before columns p.0 i c p.1 p.2 at in
     let value : value_of_field (get_or (types_of before) i c.0) (get_or fs i []) ≡ None = rw (type, ← field) e in
-    values-stop (types_of before) n fs p.0 i c.0 (values_from (types_of before) n 1 fs) (omega (arith, length-map before (λ (x : Stored). x.0))) (omega arith) value (p.3 n)
+    let stop = values-stop (types_of before) n fs p.0 i c.0 (values_from (types_of before) n 1 fs) (omega (arith, length-map before (λ (x : Stored). x.0))) (omega arith) value (p.3 n) in
+    let put : set columns i next ≡ columns = ap (set columns i) (same ∙ at) ∙ set-get_or columns i c in
+    (rw type at stop, (p.0, is ∙ (put ∙ p.2)))
 
 pub pushed-all : (before columns : List Stored) (fs : List (List ℕ)) (i n : ℕ) → Pushed before fs i columns → length before ≤ i
     → IsOkAnd (values_from (types_of before) n 1 fs) (λ row. columns ≡ with_row before row)
 pushed-all before columns fs i n p h =
     rw (values-end (types_of before) n fs p.0 i (values_from (types_of before) n 1 fs) (omega (arith, length-map before (λ (x : Stored). x.0))) (p.3 n)) p.2
 
+-- a record with another number of fields
+pub wrong_count : (before : List Stored) (n : ℕ) (fields : List (List ℕ)) (count : ℕ) → count ≡ length fields → (length fields ≡ length before → ⊥)
+    → (row_read (types_of before) n fields ≡ Err (error.FieldCount n count)) × HasPart before before
+wrong_count before n fields count e apart =
+    (rw (ne_eqb (length fields) (length (types_of before)) (λ same. apart (same ∙ length-map before (λ (x : Stored). x.0))), e) refl, ([], sym (with_no_row before)))
+
+-- the rows found, those of the records that are left, and where they stop
+abbrev pub found_and_left : List Ty → List (List Value) → ℕ → List (List (List ℕ)) → Pass
+found_and_left types rows count records = (rows ++ (rows_read types count records).0, (rows_read types count records).1)
+
+pub all_left : (types : List Ty) (records : List (List (List ℕ))) → found_and_left types [] 0 records ≡ rows_read types 0 records
+all_left types records = refl
+
 -- a row more, as the file has it
 pub load-more : (before columns next : List Stored) (count : ℕ) (fields : List (List ℕ)) (more : List (List (List ℕ)))
     → types_of columns ≡ types_of before → AllHave count columns
     → IsOkAnd (row_read (types_of columns) (count + 1) fields) (λ row. next ≡ with_row columns row)
     → AllHave (count + 1) next × (types_of next ≡ types_of before)
-    × (rows_after (types_of before) [] (rows_of next (count + 1)) more ≡ rows_after (types_of before) [] (rows_of columns count) (fields ∷ more))
+    × (found_and_left (types_of before) (rows_of next (count + 1)) (count + 1) more ≡ found_and_left (types_of before) (rows_of columns count) count (fields ∷ more))
 load-more before columns next count fields more types have ok = by (row_read (types_of columns) (count + 1) fields) refl ok
   where
     by : (j : Judged (List Value)) → row_read (types_of columns) (count + 1) fields ≡ j → IsOkAnd j (λ row. next ≡ with_row columns row)
         → AllHave (count + 1) next × (types_of next ≡ types_of before)
-        × (rows_after (types_of before) [] (rows_of next (count + 1)) more ≡ rows_after (types_of before) [] (rows_of columns count) (fields ∷ more))
+        × (found_and_left (types_of before) (rows_of next (count + 1)) (count + 1) more ≡ found_and_left (types_of before) (rows_of columns count) count (fields ∷ more))
     by (Err e) q is = absurd is
     by (Ok row) q is =
         let width : length row ≡ length columns = omega (arith, row_width (types_of columns) (count + 1) fields row q, length-map columns (λ (x : Stored). x.0)) in
-        let read : row_read (types_of before) (length (rows_of columns count) + 1) fields ≡ Ok row = rw (← types, length-rows columns count) q in (
+        let read : row_read (types_of before) (count + 1) fields ≡ Ok row = rw (← types) q in
+        let later : Pass = rows_read (types_of before) (count + 1) more in
+        let one : rows_of next (count + 1) ≡ rows_of columns count ++ row ∷ [] = rw is (rows-with_row columns row count width have) in (
           rw is (have-with_row columns row count width have),
           rw is (types-with_row columns row ∙ types),
-          rw (is, rows-with_row columns row count width have) (sym (rows-next (types_of before) (rows_of columns count) fields more row read)),
+          rw (one, read) (ap (λ (rows : List (List Value)). (rows, later.1)) (append_assoc (rows_of columns count) (row ∷ []) later.0)),
         )
 
-pub load-stop : (before columns : List Stored) (count : ℕ) (fields : List (List ℕ)) (more : List (List (List ℕ)))
-    → types_of columns ≡ types_of before → ((n : ℕ) → IsErr (row_read (types_of columns) n fields))
-    → IsErr (rows_after (types_of before) [] (rows_of columns count) (fields ∷ more))
-load-stop before columns count fields more types bad =
-    rows-stop (types_of before) (rows_of columns count) fields more (rw (← types) (bad (length (rows_of columns count) + 1)))
+abbrev stop_of : List (List Value) → TableError → Pass
+stop_of rows e = (rows, Some e)
+
+abbrev pass_of : List (List Value) → Pass
+pass_of rows = (rows, None)
+
+-- a record that gives no row
+pub load-stop : (before columns next : List Stored) (count : ℕ) (fields : List (List ℕ)) (more : List (List (List ℕ))) (e : TableError)
+    → types_of columns ≡ types_of before → AllHave count columns → row_read (types_of columns) (count + 1) fields ≡ Err e → HasPart columns next
+    → HaveRows count next × ((rows_of next count, Some e) ≡ found_and_left (types_of before) (rows_of columns count) count (fields ∷ more))
+load-stop before columns next count fields more e types have stop part =
+    let read : row_read (types_of before) (count + 1) fields ≡ Err e = rw (← types) stop in
+    let kept : rows_of next count ≡ rows_of columns count = rw part.1 (rows-with_part columns part.0 count have) in (
+      rw part.1 (have-with_part columns part.0 count have),
+      rw read (ap (λ (rows : List (List Value)). stop_of rows e) (kept ∙ sym (append-nil (rows_of columns count)))),
+    )
+
+-- no record is left
+pub load-end : (types : List Ty) (rows : List (List Value)) (count : ℕ) → (rows, None) ≡ found_and_left types rows count []
+load-end types rows count = ap (λ (whole : List (List Value)). pass_of whole) (sym (append-nil rows))
 
 abbrev empty_of : List ℕ × Ty → Stored
 empty_of column = (column.1, [])
@@ -205,8 +231,15 @@ pub types-empty : (columns : List (List ℕ × Ty)) → types_of (map (λ column
 types-empty [] = refl
 types-empty (c ∷ cs) = ap (λ (ts : List Ty). c.1 ∷ ts) (types-empty cs)
 
--- the table of a file whose first record is the header
-pub table-under : (def : TableDef) (bytes : List ℕ) (header : List (List ℕ)) (more : List (List (List ℕ))) (j : Judged (List (List Value)))
-    → records default_config (strip_bom bytes) ≡ header ∷ more → pointwise bytes_eq (column_names def) header ≡ true → def.keys ≡ []
-    → rows_after (column_types def) [] [] more ≡ j → table_of def bytes ≡ j
-table-under def bytes header more j e h k r = rw (e, h, k) r
+-- the table of a file whose first record is the header, by its two passes
+pub table_judged : (def : TableDef) (bytes : List ℕ) (header : List (List ℕ)) (more : List (List (List ℕ))) (pass : Pass)
+    → records default_config (strip_bom bytes) ≡ header ∷ more → pointwise bytes_eq (column_names def) header ≡ true → pass ≡ rows_read (column_types def) 0 more
+    → table_of def bytes ≡ after_keys (first_refusal (keys_hold def.keys) [] pass.0) pass
+table_judged def bytes header more pass e h is = rw (e, h) (rows_judged (column_types def) def.keys [] more ∙ rw (← is) refl)
+
+pub no_header : (def : TableDef) (bytes : List ℕ) → records default_config (strip_bom bytes) ≡ [] → table_of def bytes ≡ Err error.Header
+no_header def bytes e = rw e refl
+
+pub other_header : (def : TableDef) (bytes : List ℕ) (header : List (List ℕ)) (more : List (List (List ℕ)))
+    → records default_config (strip_bom bytes) ≡ header ∷ more → pointwise bytes_eq (column_names def) header ≡ false → table_of def bytes ≡ Err error.Header
+other_header def bytes header more e h = rw (e, h) refl

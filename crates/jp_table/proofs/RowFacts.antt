@@ -1,6 +1,7 @@
 -- Each row of a table has a value for each column, which fits it.
-use Rattle.std.proofs.Common.{◌≡◌, ◌<◌, ◌+◌, ℕ, zero, suc, Bool, true, false, cond, List, [], ◌∷◌, ◌++◌, length, get_or, Option, Some, None, Ok, Err, refl, sym, ap, ◌∙◌, arith}
+use Rattle.std.proofs.Common.{◌≡◌, ◌<◌, ◌+◌, ℕ, zero, suc, Bool, true, false, cond, List, [], ◌∷◌, length, get_or, Option, Some, None, Ok, Err, refl, sym, ap, ◌∙◌, arith}
 use Rattle.std.proofs.lemmas.Bool.{eqb-true}
+use Rattle.std.proofs.lemmas.List.{length-map}
 use Rattle.std.proofs.lemmas.List.Elements.{All-append, All-nil}
 use Rattle.std.proofs.lemmas.Str.{IsUtf8-from_is_utf8}
 use Rattle.std.specs.Option.{option_map}
@@ -11,12 +12,12 @@ use Rattle.jp_base.specs.declared.values.Value.{Value}
 use Rattle.jp_base.specs.declared.values.Value.TheVariants as value
 use Rattle.jp_base.specs.declared.values.Ty.{Ty}
 use Rattle.jp_base.specs.declared.values.Ty.TheVariants as ty
+use Rattle.jp_catalog.specs.Sound.{IsSoundTable}
 use Rattle.jp_catalog.specs.declared.types.Key.{Key}
 use Rattle.jp_catalog.specs.declared.types.TableDef.{TableDef}
-use Rattle.csv.specs.Reading.{default_config, records, strip_bom}
-use Rattle.std.specs.Cmp.Lexicographic.{pointwise}
 use Rattle.jp_table.specs.Fields.{is_number, null_mark, number_of, truth_of, value_of_field, value_of_plain}
-use Rattle.jp_table.specs.Loading.{◌>>=◌, Header, Judged, column_names, column_types, headed, keys_read, row_read, rows_after, table_of, values_from}
+use Rattle.jp_table.specs.Judging.{HasColumns, rows_read}
+use Rattle.jp_table.specs.Loading.{Judged, column_types, row_read, values_from}
 use Rattle.jp_table.specs.Rows.{FitsColumn, IsRowOf}
 use Rattle.jp_table.proofs.LoadingFacts.{after, found_first}
 use Rattle.jp_table.proofs.NumberFacts.{writes}
@@ -100,31 +101,16 @@ one_row types row h = λ (k : ℕ) (d : List Value) l. at k d l
     at zero d l = h
     at (suc k) d l = absurd (omega arith)
 
-fits_rows : (types : List Ty) (keys : List Key) (rows : List (List Value)) (files : List (List (List ℕ))) (whole : List (List Value))
-    → All (IsRowOf types) rows → rows_after types keys rows files ≡ Ok whole → All (IsRowOf types) whole
-fits_rows types keys rows [] whole h e = let is : rows ≡ whole = cc in rw (← is) h
-fits_rows types keys rows (fields ∷ files) whole h e =
-    by (row_read types (length rows + 1) fields) refl (λ (row : List Value) fits w. fits_rows types keys (rows ++ row ∷ []) files whole fits w)
+-- the rows that are read
+pub fits_read : (types : List Ty) (n : ℕ) (records : List (List (List ℕ))) → All (IsRowOf types) (rows_read types n records).0
+fits_read types n [] = All-nil (IsRowOf types)
+fits_read types n (fields ∷ more) = by (row_read types (n + 1) fields) refl (fits_read types (n + 1) more)
   where
-    by : (j : Judged (List Value)) → row_read types (length rows + 1) fields ≡ j
-        → ((row : List Value) → All (IsRowOf types) (rows ++ row ∷ []) → rows_after types keys (rows ++ row ∷ []) files ≡ Ok whole → All (IsRowOf types) whole)
-        → All (IsRowOf types) whole
-    by (Err x) q more = absurd (let stop = rw q at e in cc)
-    by (Ok row) q more = on (keys_read (length rows + 1) keys rows row) refl (rw q at e)
-      where
-        on : (j : Judged (Unit {0})) → keys_read (length rows + 1) keys rows row ≡ j
-            → (keys_read (length rows + 1) keys rows row >>= (λ _. rows_after types keys (rows ++ row ∷ []) files)) ≡ Ok whole → All (IsRowOf types) whole
-        on (Ok u) k w = more row (All-append (IsRowOf types) rows (row ∷ []) h (one_row types row (fits_row types (length rows + 1) fields row q))) (rw k at w)
-        on (Err x) k w = absurd (let stop = rw k at w in cc)
+    by : (j : Judged (List Value)) → row_read types (n + 1) fields ≡ j → All (IsRowOf types) (rows_read types (n + 1) more).0 → All (IsRowOf types) (rows_read types n (fields ∷ more)).0
+    by (Ok row) q later = rw q (All-append (IsRowOf types) (row ∷ []) (rows_read types (n + 1) more).0 (one_row types row (fits_row types (n + 1) fields row q)) later)
+    by (Err e) q later = rw q (All-nil (IsRowOf types))
 
--- the rows of a table
-pub table_rows : (def : TableDef) (bytes : List ℕ) (whole : List (List Value)) → table_of def bytes ≡ Ok whole → All (IsRowOf (column_types def)) whole
-table_rows def bytes whole e = by (records default_config (strip_bom bytes)) e
-  where
-    by : (rs : List (List (List ℕ))) → headed def rs ≡ Ok whole → All (IsRowOf (column_types def)) whole
-    by [] w = absurd (let stop = w in cc)
-    by (header ∷ more) w = on (pointwise bytes_eq (column_names def) header) w
-      where
-        on : (b : Bool) → cond b (rows_after (column_types def) def.keys [] more) (Err Header) ≡ Ok whole → All (IsRowOf (column_types def)) whole
-        on true w = fits_rows (column_types def) def.keys [] more whole (All-nil (IsRowOf (column_types def))) w
-        on false w = absurd (let stop = w in cc)
+-- they have the columns of each key
+pub columns_there : (def : TableDef) (rows : List (List Value)) → IsSoundTable def → All (IsRowOf (column_types def)) rows → All (HasColumns rows) def.keys
+columns_there def rows sound fits = λ (k : ℕ) (key : Key) lk (n : ℕ) (row : List Value) ln (i column : ℕ) li.
+    omega (arith, (sound.keys k key lk).there i column li, (fits n row ln).width, length-map def.columns (λ (column : List ℕ × Ty). column.1))

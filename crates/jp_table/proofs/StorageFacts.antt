@@ -3,9 +3,10 @@ use Rattle.std.proofs.Common.{◌≡◌, ◌≤◌, ◌<◌, ◌+◌, ℕ, zero,
 use Rattle.std.proofs.lemmas.List.FromFn.{get_or-map-range_with_len, length-map-range_with_len, map-range_with_len_more}
 use Rattle.std.proofs.lemmas.List.{get_or-map, length-append, length-map}
 use Rattle.std.specs.List.{range_with_len}
+use Rattle.std.specs.Prelude.{All}
 use Rattle.jp_base.specs.declared.values.Value.{Value}
 use Rattle.jp_base.specs.declared.values.Value.TheVariants as value
-use Rattle.jp_table.specs.Storage.{AllHave, Stored, cell_at, row_at, rows_of, types_of, with_row, with_value}
+use Rattle.jp_table.specs.Storage.{AllHave, HaveRows, Stored, cell_at, row_at, rows_of, types_of, with_row, with_value}
 
 -- an empty row leaves the columns as they were
 pub with_no_row : (columns : List Stored) → with_row columns [] ≡ columns
@@ -88,6 +89,22 @@ rows-with_row columns row n e h =
     (same_range (row_at (with_row columns row)) (row_at columns) 0 n (λ r l m. kept_row columns row r (λ k d j. omega (arith, h k d j))))
     (last_row columns row n e (λ k d j. h k d j))
 
+-- some values more leave the rows as they were
+pub rows-with_part : (columns : List Stored) (row : List Value) (n : ℕ) → AllHave n columns → rows_of (with_row columns row) n ≡ rows_of columns n
+rows-with_part columns row n h = same_range (row_at (with_row columns row)) (row_at columns) 0 n (λ r l m. kept_row columns row r (λ k d j. omega (arith, h k d j)))
+
+pub have-with_part : (columns : List Stored) (row : List Value) (n : ℕ) → AllHave n columns → HaveRows n (with_row columns row)
+have-with_part columns row n h = λ (k : ℕ) (d : Stored) l. at columns row k d (λ (j : ℕ) m. h j d m) (omega (arith, length-with_row columns row))
+  where
+    at : (columns : List Stored) (row : List Value) (k : ℕ) (d : Stored) → ((j : ℕ) → j < length columns → length (get_or columns j d).1 ≡ n) → k < length columns → n ≤ length (get_or (with_row columns row) k d).1
+    at [] row k d h l = absurd (omega arith)
+    at (c ∷ cs) [] k d h l = omega (arith, h k l)
+    at (c ∷ cs) (v ∷ row) zero d h l = omega (arith, h 0 (omega arith), length-append c.1 (v ∷ []))
+    at (c ∷ cs) (v ∷ row) (suc k) d h l = at cs row k d (λ j m. h (suc j) (omega arith)) (omega arith)
+
+pub have_all : (columns : List Stored) (n : ℕ) → AllHave n columns → HaveRows n columns
+have_all columns n h = λ (k : ℕ) (d : Stored) l. omega (arith, h k d l)
+
 pub length-rows : (columns : List Stored) (n : ℕ) → length (rows_of columns n) ≡ n
 length-rows columns n = length-map-range_with_len (row_at columns) 0 n
 
@@ -96,6 +113,13 @@ length-row_at columns r = length-map columns (λ (column : Stored). get_or colum
 
 rows-at : (columns : List Stored) (n r : ℕ) → r < n → get_or (rows_of columns n) r [] ≡ row_at columns r
 rows-at columns n r h = get_or-map-range_with_len (row_at columns) 0 n r r [] h (omega arith)
+
+-- each row has a value for each column
+pub width-rows : (columns : List Stored) (n w : ℕ) → w ≡ length columns → All (λ (row : List Value). length row ≡ w) (rows_of columns n)
+width-rows columns n w e = λ (r : ℕ) (d : List Value) h.
+    let few : r < n = omega (arith, h, length-rows columns n) in
+    let is : get_or (rows_of columns n) r d ≡ row_at columns r = get_or-map-range_with_len (row_at columns) 0 n r r d few (omega arith) in
+    ap length is ∙ (length-row_at columns r ∙ sym e)
 
 -- a row and a column of the rows are ones of the columns
 pub col_there : (rows : List (List Value)) (columns : List Stored) (n r k : ℕ) → rows_of columns n ≡ rows → r < length rows → k < length (get_or rows r []) → (r < n) × (k < length columns)

@@ -1,7 +1,11 @@
+pub mod Columns
 pub mod Fields
-pub mod First
+pub mod Judging
+pub mod Keys
 pub mod Loading
+pub mod Parts
 pub mod Readers
 pub mod Records
 pub mod Rows
 pub mod Storage
+pub mod Texts

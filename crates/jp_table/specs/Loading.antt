@@ -1,5 +1,5 @@
 -- What the bytes of a data file say of the table: its rows, or the first refusal in the order of checks.
-use Rattle.std.specs.Prelude.{◌==◌, if◌then◌else◌, not, ℕ, ◌+◌, Bool, List, [], ◌∷◌, ◌++◌, length, map, filter, position, Option, Some, None, Result, Ok, Err}
+use Rattle.std.specs.Prelude.{◌≡◌, ◌==◌, if◌then◌else◌, not, ℕ, ◌+◌, Bool, List, [], ◌∷◌, ◌++◌, length, map, filter, position, Option, Some, None, Result, Ok, Err}
 use Rattle.std.specs.Cmp.Lexicographic.{pointwise}
 use Rattle.std.specs.List.{list_any, slice_index_or}
 use Rattle.std.specs.Str.{bytes_eq}
@@ -12,25 +12,18 @@ use Rattle.jp_base.specs.declared.values.Ty.TheVariants as ty
 use Rattle.jp_catalog.specs.declared.types.Key.{Key}
 use Rattle.jp_catalog.specs.declared.types.TableDef.{TableDef}
 use Rattle.jp_table.specs.Fields.{value_of_field}
+use Rattle.jp_table.specs.declared.error.TableError.{TableError}
+use Rattle.jp_table.specs.declared.error.TableError.TheVariants as error
 
--- Why a file is refused. Records of data and columns are counted from 1.
-pub data Refusal : Type 0 where
-  -- the first record isn't the list of the columns' names, or there is none
-  Header : Refusal
-  -- the record, and how many fields it has
-  FieldCount : ℕ → ℕ → Refusal
-  -- the record and the column whose field says no value of the column's type
-  BadNumber : ℕ → ℕ → Refusal
-  BadBool : ℕ → ℕ → Refusal
-  NotUtf8 : ℕ → ℕ → Refusal
-  -- the record with a NULL in a column of a primary key
-  NullInKey : ℕ → Refusal
-  -- the least earlier record that agrees with a record in all columns of a key, and that record
-  KeyRepeated : ℕ → ℕ → Refusal
-
--- what was found, or the refusal
+-- what was found, or the refusal; records of data and columns are counted from 1
 abbrev pub Judged : Type 0 → Type 0
-Judged A = Result A Refusal
+Judged A = Result A TableError
+
+-- what `load` answers is what is defined, or want of memory
+abbrev pub Agrees : Judged (List (List Value)) → Judged (List (List Value)) → Type 0
+Agrees (Ok rows) defined = defined ≡ Ok rows
+Agrees (Err error.Memory) defined = Unit {0}
+Agrees (Err refusal) defined = defined ≡ Err refusal
 
 -- one check after the other: the first refusal is the answer
 infixl 10 ◌>>=◌
@@ -40,12 +33,12 @@ Err e >>= f = Err e
 
 -- ---- fields
 
-abbrev pub bad_field : Ty → ℕ → ℕ → Refusal
-bad_field ty.Number at column = BadNumber at column
-bad_field ty.Boolean at column = BadBool at column
-bad_field ty.Text at column = NotUtf8 at column
+abbrev pub bad_field : Ty → ℕ → ℕ → TableError
+bad_field ty.Number at column = error.BadNumber at column
+bad_field ty.Boolean at column = error.BadBool at column
+bad_field ty.Text at column = error.NotUtf8 at column
 
-abbrev pub value_read : Refusal → Option Value → Judged Value
+abbrev pub value_read : TableError → Option Value → Judged Value
 value_read refusal (Some found) = Ok found
 value_read refusal None = Err refusal
 
@@ -61,7 +54,7 @@ values_from (type ∷ types) at column (field ∷ fields) =
 -- a row has a value for each column
 abbrev pub row_read : List Ty → ℕ → List (List ℕ) → Judged (List Value)
 row_read types at fields =
-    if length fields == length types then values_from types at 1 fields else Err (FieldCount at (length fields))
+    if length fields == length types then values_from types at 1 fields else Err (error.FieldCount at (length fields))
 
 -- ---- keys
 
@@ -76,11 +69,11 @@ abbrev pub repeats : Key → List Value → List Value → Bool
 repeats key row earlier = pointwise are_equal (key_values key earlier) (key_values key row)
 
 abbrev pub no_null_read : ℕ → List Key → List Value → Judged (Unit {0})
-no_null_read at primary row = if list_any (has_null row) primary then Err (NullInKey at) else Ok tt
+no_null_read at primary row = if list_any (has_null row) primary then Err (error.NullInKey at) else Ok tt
 
 -- the place of the earlier row that the record repeats, of which there must be none
 abbrev pub new_read : ℕ → Option ℕ → Judged (Unit {0})
-new_read at (Some place) = Err (KeyRepeated (place + 1) at)
+new_read at (Some place) = Err (error.KeyRepeated (place + 1) at)
 new_read at None = Ok tt
 
 -- no key of these repeats one of the earlier rows
@@ -118,9 +111,9 @@ column_types def = map (λ column. column.1) def.columns
 
 -- the first record names the columns, in order
 abbrev pub headed : TableDef → List (List (List ℕ)) → Judged (List (List Value))
-headed def [] = Err Header
+headed def [] = Err error.Header
 headed def (header ∷ more) =
-    if pointwise bytes_eq (column_names def) header then rows_after (column_types def) def.keys [] more else Err Header
+    if pointwise bytes_eq (column_names def) header then rows_after (column_types def) def.keys [] more else Err error.Header
 
 -- the rows of the table, in the order of the file
 abbrev pub table_of : TableDef → List ℕ → Judged (List (List Value))

@@ -1,13 +1,17 @@
-ghost use Rattle.std.specs.Prelude.{◌≡◌, ◌<◌, [], Some, None, IsSomeAnd, OnOk, MatchResult, length};
+ghost use Rattle.std.specs.Prelude.{◌≡◌, ◌<◌, [], map, true, false, Some, None, IfOk, MatchOption, length};
 ghost use Rattle.std.specs.List.{slice_index_or};
+ghost use Rattle.std.specs.Str.{bytes_eq, is_utf8};
 ghost use Rattle.jp_base.specs.Cells.{value_of_cell};
 ghost use Rattle.jp_base.specs.declared.values.Value.TheVariants as value;
 ghost use Rattle.jp_base.specs.declared.values.Ty.TheVariants as column_ty;
-ghost use Rattle.jp_table.specs.Fields.{number_of, value_of_field};
-ghost use Rattle.jp_table.specs.Storage.{value_of_number, with_value};
+ghost use Rattle.jp_table.specs.Columns.{stored_of};
+ghost use Rattle.jp_table.specs.Fields.{number_of, truth_of, value_of_field};
+ghost use Rattle.jp_table.specs.Loading.{bad_field};
+ghost use Rattle.jp_table.specs.Storage.{Took, value_of_number, value_of_truth};
 
 use crate::TableError;
-use jp_base::{Cell, Ty};
+use crate::texts::Texts;
+use jp_base::{Cell, Memory, Ty};
 use std::alloc::Global;
 use std::marker::Model;
 
@@ -17,44 +21,56 @@ const NULL_MARK: &[u8] = b"\\N";
 /// A column of a table in memory. Contracts see its type and the value of each row.
 #[derive(Drop)]
 pub(crate) struct Column {
-    /// None is NULL.
-    numbers: Vec<Option<i64>>,
+    cells: Cells,
+}
+
+/// The values of a column, in the form of its type. None is NULL.
+#[derive(Drop)]
+enum Cells {
+    Numbers(Vec<Option<i64>>),
+    Booleans(Vec<Option<bool>>),
+    Texts(Texts),
 }
 
 impl Model for Column {
-    ghost use Rattle.std.specs.Prelude.{List, map};
-    ghost use Rattle.jp_base.specs.declared.values.Ty.{Ty};
-    ghost use Rattle.jp_base.specs.declared.values.Ty.TheVariants as ty;
-    ghost use Rattle.jp_base.specs.declared.values.Value.{Value as Datum};
-    ghost use Rattle.jp_table.specs.Storage.{value_of_number};
+    ghost use Rattle.jp_table.specs.Columns.{stored_of};
+    ghost use Rattle.jp_table.specs.Storage.{Stored};
 
-    ghost Value = { Ty × List Datum };
+    ghost Value = { Stored };
 
-    ghost view = { λ c. (ty.Number, map value_of_number c.numbers.items) };
+    ghost view = { λ c. stored_of c.cells };
 }
 
 impl Column {
     /// A column without rows.
     pub(crate) fn new(alloc: Global, ty: Ty) -> Column
-        requires { ty ≡ column_ty.Number }
         ensures { result ≡ (ty, []) }
     {
-        let Ty::Number = ty else { unreachable!() };
-        Column {
-            numbers: Vec::new(alloc),
-        }
+        let cells = match ty {
+            Ty::Number => Cells::Numbers(Vec::new(alloc)),
+            Ty::Boolean => Cells::Booleans(Vec::new(alloc)),
+            Ty::Text => Cells::Texts(Texts::new(alloc)),
+        };
+        Column { cells }
     }
 
-    /// Puts the value of a field at the end.
-    pub(crate) fn push(&mut self, field: &[u8]) -> Result<(), TableError>
-        ensures ok { OnOk result (IsSomeAnd (value_of_field self.old.0 field.now) (λ v. self.new ≡ with_value self.old v)) }
-        ensures refused { result ≡ Err TableError.Refused → value_of_field self.old.0 field.now ≡ None }
+    /// Puts the value of a field at the end. False says that the field has no value of the column's type, and that
+    /// the column is as it was.
+    pub(crate) fn push(&mut self, field: &[u8]) -> Result<bool, Memory>
+        ensures { IfOk result (Took (value_of_field self.old.0 field.now) self.old self.new) }
     {
-        let numbers = &mut self.numbers;
-        let number = read_number(field)?;
-        match numbers.push(number) {
-            Ok(()) => Ok(()),
-            Err(_) => Err(TableError::Memory),
+        let taken = self.cells.push(field)?;
+        Ok(taken)
+    }
+
+    /// The error of a field that has no value of the column's type, by its record and column.
+    pub(crate) fn bad_field(&self, record_no: u64, column: u32) -> TableError
+        ensures { result ≡ bad_field self.now.0 record_no column }
+    {
+        match &self.cells {
+            Cells::Numbers(_) => TableError::BadNumber(record_no, column),
+            Cells::Booleans(_) => TableError::BadBool(record_no, column),
+            Cells::Texts(_) => TableError::NotUtf8(record_no, column),
         }
     }
 
@@ -63,25 +79,103 @@ impl Column {
         requires { row < length self.now.1 }
         ensures { value_of_cell result ≡ slice_index_or self.now.1 row value.Null }
     {
-        match self.numbers[row] {
-            Some(number) => Cell::Num(i128::from(number)),
-            None => Cell::Null,
+        match &self.cells {
+            Cells::Numbers(numbers) => number_cell(numbers, row),
+            Cells::Booleans(truths) => truth_cell(truths, row),
+            Cells::Texts(texts) => texts.cell(row),
         }
     }
 }
 
-/// What a field of a number column says, None for NULL. The only error is `Refused`.
-fn read_number(field: &[u8]) -> Result<Option<i64>, TableError>
-    ensures { MatchResult result
-        (λ number. value_of_field column_ty.Number field.now ≡ Some (value_of_number number))
-        (λ e. (e ≡ TableError.Refused) × (value_of_field column_ty.Number field.now ≡ None)) }
+impl Cells {
+    fn push(&mut self, field: &[u8]) -> Result<bool, Memory>
+        ensures { IfOk result (Took (value_of_field (stored_of self.old).0 field.now) (stored_of self.old) (stored_of self.new)) }
+    {
+        match self {
+            Cells::Numbers(numbers) => {
+                let taken = push_number(numbers, field)?;
+                Ok(taken)
+            }
+            Cells::Booleans(truths) => {
+                let taken = push_truth(truths, field)?;
+                Ok(taken)
+            }
+            Cells::Texts(texts) => {
+                let taken = push_text(texts, field)?;
+                Ok(taken)
+            }
+        }
+    }
+}
+
+fn number_cell(numbers: &[Option<i64>], row: usize) -> Cell<'_>
+    requires { row < length numbers.now }
+    ensures { value_of_cell result ≡ slice_index_or (map value_of_number numbers.now) row value.Null }
+{
+    match numbers[row] {
+        Some(number) => Cell::Num(i128::from(number)),
+        None => Cell::Null,
+    }
+}
+
+fn truth_cell(truths: &[Option<bool>], row: usize) -> Cell<'_>
+    requires { row < length truths.now }
+    ensures { value_of_cell result ≡ slice_index_or (map value_of_truth truths.now) row value.Null }
+{
+    match truths[row] {
+        Some(truth) => Cell::Bool(truth),
+        None => Cell::Null,
+    }
+}
+
+fn push_number(numbers: &mut Vec<Option<i64>>, field: &[u8]) -> Result<bool, Memory>
+    ensures { IfOk result (Took (value_of_field column_ty.Number field.now) (column_ty.Number, map value_of_number numbers.old.items) (column_ty.Number, map value_of_number numbers.new.items)) }
+{
+    let Some(number) = read_number(field) else {
+        return Ok(false);
+    };
+    match numbers.push(number) {
+        Ok(()) => Ok(true),
+        Err(_) => Err(Memory),
+    }
+}
+
+fn push_truth(truths: &mut Vec<Option<bool>>, field: &[u8]) -> Result<bool, Memory>
+    ensures { IfOk result (Took (value_of_field column_ty.Boolean field.now) (column_ty.Boolean, map value_of_truth truths.old.items) (column_ty.Boolean, map value_of_truth truths.new.items)) }
+{
+    let Some(truth) = read_truth(field) else {
+        return Ok(false);
+    };
+    match truths.push(truth) {
+        Ok(()) => Ok(true),
+        Err(_) => Err(Memory),
+    }
+}
+
+fn push_text(texts: &mut Texts, field: &[u8]) -> Result<bool, Memory>
+    ensures { IfOk result (Took (value_of_field column_ty.Text field.now) (column_ty.Text, texts.old) (column_ty.Text, texts.new)) }
+{
+    if field == NULL_MARK {
+        texts.push_null()?;
+        return Ok(true);
+    }
+    let Some(text) = read_text(field) else {
+        return Ok(false);
+    };
+    texts.push(text)?;
+    Ok(true)
+}
+
+/// What a field of a number column says: Some(None) is NULL, and None no number.
+fn read_number(field: &[u8]) -> Option<Option<i64>>
+    ensures { MatchOption result (value_of_field column_ty.Number field.now ≡ None) (λ number. value_of_field column_ty.Number field.now ≡ Some (value_of_number number)) }
 {
     if field.is_empty() || field == NULL_MARK {
-        return Ok(None);
+        return Some(None);
     }
     match parse_number(field) {
-        Some(number) => Ok(Some(number)),
-        None => Err(TableError::Refused),
+        Some(number) => Some(Some(number)),
+        None => None,
     }
 }
 
@@ -91,6 +185,54 @@ fn parse_number(field: &[u8]) -> Option<i64>
 {
     match str::from_utf8(field) {
         Ok(text) => text.parse::<i64>().ok(),
+        Err(_) => None,
+    }
+}
+
+/// What a field of a boolean column says: Some(None) is NULL, and None no truth value.
+fn read_truth(field: &[u8]) -> Option<Option<bool>>
+    ensures { MatchOption result (value_of_field column_ty.Boolean field.now ≡ None) (λ truth. value_of_field column_ty.Boolean field.now ≡ Some (value_of_truth truth)) }
+{
+    if field.is_empty() || field == NULL_MARK {
+        return Some(None);
+    }
+    match parse_truth(field) {
+        Some(truth) => Some(Some(truth)),
+        None => None,
+    }
+}
+
+/// The truth value that the bytes name.
+fn parse_truth(field: &[u8]) -> Option<bool>
+    ensures { result ≡ truth_of field.now }
+{
+    if is_word(field, "t") {
+        return Some(true);
+    }
+    if is_word(field, "true") {
+        return Some(true);
+    }
+    if is_word(field, "f") {
+        return Some(false);
+    }
+    if is_word(field, "false") {
+        return Some(false);
+    }
+    None
+}
+
+fn is_word(field: &[u8], word: &str) -> bool
+    ensures { result ≡ bytes_eq field.now word.now }
+{
+    field == word.as_bytes()
+}
+
+/// The bytes as a text, None where they aren't UTF-8.
+fn read_text(field: &[u8]) -> Option<&str>
+    ensures { MatchOption result (is_utf8 field.now ≡ false) (λ text. (text.now ≡ field.now) × (is_utf8 field.now ≡ true)) }
+{
+    match str::from_utf8(field) {
+        Ok(text) => Some(text),
         Err(_) => None,
     }
 }

@@ -3,12 +3,25 @@ ghost use Rattle.jp_table.specs.declared.error.TableError.TheVariants as TableEr
 
 use jp_base::Memory;
 
-/// Why a data file gives no table.
+/// Why a data file gives no table. Records of data and columns are counted from 1, and the header is no record
+/// of data.
 #[derive(Clone, Copy, Debug, PartialEq, Eq)]
 pub enum TableError {
-    /// The file isn't a table of its definition: the first record isn't the header, or some record of data has
-    /// another number of fields than the table has columns, or a field that is no value of its column's type.
-    Refused,
+    /// The first record isn't the list of the columns' names in order, or there is no record.
+    Header,
+    /// A record with another number of fields than the table has columns: the record, and how many fields it has.
+    FieldCount(u64, u64),
+    /// A field of a number column that is no whole number from -2^63 to 2^63-1: the record and the column.
+    BadNumber(u64, u32),
+    /// A field of a boolean column that is none of `t`, `f`, `true` and `false`: the record and the column.
+    BadBool(u64, u32),
+    /// A field of a text column that isn't UTF-8: the record and the column.
+    NotUtf8(u64, u32),
+    /// A record with a NULL in a column of the primary key.
+    NullInKey(u64),
+    /// Two records that are equal in all columns of a key without a NULL: the least such earlier record, and the
+    /// record that repeats it.
+    KeyRepeated(u64, u64),
     /// Memory was refused.
     Memory,
 }

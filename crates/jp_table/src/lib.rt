@@ -3,15 +3,16 @@
 
 mod column;
 mod error;
-mod first;
 mod header;
+mod keys;
 mod loading;
+mod part;
 mod records;
 mod table;
 #[cfg(test)]
 mod tests;
+mod texts;
 
 pub use error::TableError;
-pub use first::{FirstError, read_first};
 pub use loading::load;
 pub use table::{Table, Tables};

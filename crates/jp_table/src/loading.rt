@@ -1,49 +1,56 @@
-ghost use Rattle.std.specs.Prelude.{◌≡◌, ◌≢◌, ◌<◌, ◌^◌, ℕ, [], All, IfOk, IsErr, IsOkAnd, OnOk, length, map};
+ghost use Rattle.std.specs.Prelude.{◌≡◌, ◌<◌, ◌≤◌, ◌^◌, [], All, IfOk, length, map};
 ghost use Rattle.std.specs.List.{slice_index_or};
 ghost use Rattle.csv.specs.Records.{fields_of};
 ghost use Rattle.jp_base.specs.declared.values.Ty.TheVariants as ty;
-ghost use Rattle.jp_table.specs.First.{IsFirstTable};
-ghost use Rattle.jp_table.specs.Loading.{column_types, row_read, rows_after, table_of, values_from};
+ghost use Rattle.jp_catalog.specs.Sound.{IsSoundTable};
+ghost use Rattle.jp_table.specs.Judging.{HasColumns, after_keys, first_refusal, keys_hold, rows_read};
+ghost use Rattle.jp_table.specs.Keys.{KeysHold};
+ghost use Rattle.jp_table.specs.Loading.{Agrees, column_types, row_read, table_of, values_from};
 ghost use Rattle.jp_table.specs.Rows.{IsRowOf};
-ghost use Rattle.jp_table.specs.Storage.{AllHave, rows_of, types_of, with_row};
+ghost use Rattle.jp_table.specs.Storage.{AllHave, Pushes, types_of};
 
 use crate::column::Column;
 use crate::header::{field_at, is_header};
+use crate::keys::refusal_of_keys;
 use crate::records::Records;
 use crate::{Table, TableError};
 use csv::ByteRecord;
-use jp_catalog::{Columns, TableDef};
+use jp_base::Memory;
+use jp_catalog::{Columns, Key, TableDef};
 use std::alloc::Global;
 
 /// The table of a data file's bytes, judged against its definition. A byte order mark at the start of the file
-/// is no part of it. Records are read one at a time.
+/// is no part of it. Records are judged one after the other, each by its number of fields, its fields from left to
+/// right, NULL in the primary key, and repeated keys in their order, the primary key first; the error is the first.
+/// Keys are judged when all records before the first bad one are read.
 pub fn load(alloc: Global, def: &TableDef, bytes: &[u8]) -> Result<Table, TableError>
-    requires { IsFirstTable def.now }
-    ensures table { IfOk result (λ table. table_of def.now bytes.now ≡ Ok table) }
+    requires sound { IsSoundTable def.now }
+    ensures table { Agrees result (table_of def.now bytes.now) }
     ensures fits { IfOk result (λ table. All (IsRowOf (column_types def.now)) table) }
-    ensures refused { result ≡ Err TableError.Refused → IsErr (table_of def.now bytes.now) }
+    ensures keys { IfOk result (KeysHold def.now) }
 {
     let mut records = Records::new(alloc, bytes);
     let mut fields = ByteRecord::new(alloc);
-    if !records.read(&mut fields)? || !is_header(&def.columns, &fields) {
-        return Err(TableError::Refused);
+    if !records.read(&mut fields)? {
+        return Err(TableError::Header);
+    }
+    if !is_header(&def.columns, &fields) {
+        return Err(TableError::Header);
     }
     let columns = empty_columns(alloc, &def.columns)?;
-    let table = load_rows(&mut records, &mut fields, columns)?;
-    Ok(table)
+    let loaded = load_rows(&mut records, &mut fields, columns)?;
+    judge_keys(alloc, def.keys.as_slice(), loaded)
 }
 
-/// A column without rows for each column of the definition. The only error is `Memory`.
-fn empty_columns(alloc: Global, columns: &Columns) -> Result<Vec<Column>, TableError>
-    requires { All (λ column. column.1 ≡ ty.Number) columns.now }
-    ensures made { IfOk result (λ v. v.items ≡ map (λ column. (column.1, [])) columns.now) }
-    ensures memory { result ≢ Err TableError.Refused }
+/// A column without rows for each column of the definition.
+fn empty_columns(alloc: Global, columns: &Columns) -> Result<Vec<Column>, Memory>
+    ensures { IfOk result (λ v. v.items ≡ map (λ column. (column.1, [])) columns.now) }
 {
     let mut made = Vec::new(alloc);
     for i in 0..columns.len() {
         match made.push(empty_column(alloc, columns, i)) {
             Ok(()) => {}
-            Err(_) => return Err(TableError::Memory),
+            Err(_) => return Err(Memory),
         }
     }
     Ok(made)
@@ -51,8 +58,7 @@ fn empty_columns(alloc: Global, columns: &Columns) -> Result<Vec<Column>, TableE
 
 /// The column at a place of the definition, without rows.
 fn empty_column(alloc: Global, columns: &Columns, i: usize) -> Column
-    requires there { i < length columns.now }
-    requires numbers { All (λ column. column.1 ≡ ty.Number) columns.now }
+    requires { i < length columns.now }
     ensures { result ≡ ((slice_index_or columns.now i ([], ty.Number)).1, []) }
 {
     match columns.get_index(i) {
@@ -61,45 +67,88 @@ fn empty_column(alloc: Global, columns: &Columns, i: usize) -> Column
     }
 }
 
-/// The table of the records that are left, over columns without rows.
+/// The rows before the first record that gives none, and why it gives none.
+#[derive(Drop)]
+struct Loaded {
+    table: Table,
+    stop: Option<TableError>,
+}
+
+/// The rows of the records that are left, over columns without rows.
 fn load_rows(
     records: &mut Records<'_>,
     fields: &mut ByteRecord,
     mut columns: Vec<Column>,
-) -> Result<Table, TableError>
+) -> Result<Loaded, Memory>
     requires few { length records.old < 2 ^ 64 }
+    requires narrow { length columns.items ≤ 64 }
     requires empty { AllHave 0 columns.items }
-    ensures table { IfOk result (λ table. rows_after (types_of columns.items) [] [] records.old ≡ Ok table) }
-    ensures refused { result ≡ Err TableError.Refused → IsErr (rows_after (types_of columns.items) [] [] records.old) }
+    ensures { IfOk result (λ loaded. (loaded.table, loaded.stop) ≡ rows_read (types_of columns.items) 0 records.old) }
 {
     let mut rows = 0;
     'rows: while records.read(fields)? {
-        push_row(&mut columns, fields)?;
-        rows += 1;
+        match push_row(&mut columns, fields, rows + 1)? {
+            None => rows += 1,
+            Some(refusal) => {
+                return Ok(Loaded {
+                    table: Table { columns, rows },
+                    stop: Some(refusal),
+                });
+            }
+        }
     }
-    Ok(Table { columns, rows })
+    Ok(Loaded {
+        table: Table { columns, rows },
+        stop: None,
+    })
 }
 
-/// Puts the value of each field at the end of its column. After an error some columns have a value more.
-fn push_row(columns: &mut Vec<Column>, fields: &ByteRecord) -> Result<(), TableError>
-    ensures ok { OnOk result ((n : ℕ) → IsOkAnd (row_read (types_of columns.old.items) n (fields_of fields.now)) (λ row. columns.new.items ≡ with_row columns.old.items row)) }
-    ensures refused { result ≡ Err TableError.Refused → (n : ℕ) → IsErr (row_read (types_of columns.old.items) n (fields_of fields.now)) }
+/// Puts the values of a record at the ends of the columns. Where it gives no row, its refusal is the answer, and
+/// some columns may have a value more.
+fn push_row(
+    columns: &mut Vec<Column>,
+    fields: &ByteRecord,
+    record_no: u64,
+) -> Result<Option<TableError>, Memory>
+    requires { length columns.old.items ≤ 64 }
+    ensures { IfOk result (Pushes (row_read (types_of columns.old.items) record_no (fields_of fields.now)) columns.old.items columns.new.items) }
 {
     if fields.len() != columns.len() {
-        return Err(TableError::Refused);
+        return Ok(Some(TableError::FieldCount(record_no, fields.len() as u64)));
     }
-    push_fields(columns, fields)?;
-    Ok(())
+    let refusal = push_fields(columns, fields, record_no)?;
+    Ok(refusal)
 }
 
 /// The same where there is a field for each column.
-fn push_fields(columns: &mut Vec<Column>, fields: &ByteRecord) -> Result<(), TableError>
-    requires { length (fields_of fields.now) ≡ length columns.old.items }
-    ensures ok { OnOk result ((n : ℕ) → IsOkAnd (values_from (types_of columns.old.items) n 1 (fields_of fields.now)) (λ row. columns.new.items ≡ with_row columns.old.items row)) }
-    ensures refused { result ≡ Err TableError.Refused → (n : ℕ) → IsErr (values_from (types_of columns.old.items) n 1 (fields_of fields.now)) }
+fn push_fields(
+    columns: &mut Vec<Column>,
+    fields: &ByteRecord,
+    record_no: u64,
+) -> Result<Option<TableError>, Memory>
+    requires narrow { length columns.old.items ≤ 64 }
+    requires one_each { length (fields_of fields.now) ≡ length columns.old.items }
+    ensures { IfOk result (Pushes (values_from (types_of columns.old.items) record_no 1 (fields_of fields.now)) columns.old.items columns.new.items) }
 {
     for i in 0..columns.len() {
-        columns[i].push(field_at(fields, i))?;
+        if !columns[i].push(field_at(fields, i))? {
+            return Ok(Some(columns[i].bad_field(record_no, i as u32 + 1)));
+        }
     }
-    Ok(())
+    Ok(None)
+}
+
+/// The table that was loaded, where its keys hold and no record stopped it.
+fn judge_keys(alloc: Global, keys: &[Key], loaded: Loaded) -> Result<Table, TableError>
+    requires { All (HasColumns loaded.table) keys.now }
+    ensures { Agrees result (after_keys (first_refusal (keys_hold keys.now) [] loaded.table) (loaded.table, loaded.stop)) }
+{
+    let Loaded { table, stop } = loaded;
+    if let Some(refusal) = refusal_of_keys(alloc, keys, &table)? {
+        return Err(refusal);
+    }
+    if let Some(refusal) = stop {
+        return Err(refusal);
+    }
+    Ok(table)
 }

@@ -1,4 +1,4 @@
-ghost use Rattle.std.specs.Prelude.{◌≡◌, ◌<◌, [], length};
+ghost use Rattle.std.specs.Prelude.{◌≡◌, ◌<◌, [], All, length};
 ghost use Rattle.std.specs.List.{slice_index_or};
 ghost use Rattle.jp_base.specs.Cells.{value_of_cell};
 ghost use Rattle.jp_table.specs.Storage.{cell_at};
@@ -18,13 +18,13 @@ pub struct Table {
 impl Model for Table {
     ghost use Rattle.std.specs.Prelude.{List};
     ghost use Rattle.jp_base.specs.declared.values.Value.{Value as Datum};
-    ghost use Rattle.jp_table.specs.Storage.{AllHave, rows_of};
+    ghost use Rattle.jp_table.specs.Storage.{HaveRows, rows_of};
 
     ghost Value = { List (List Datum) };
 
     ghost view = { λ t. rows_of t.columns.items t.rows };
 
-    ghost invariant = { λ t. AllHave t.rows t.columns.items };
+    ghost invariant = { λ t. HaveRows t.rows t.columns.items };
 }
 
 impl Table {
@@ -33,6 +33,13 @@ impl Table {
         ensures { result ≡ length self.now }
     {
         self.rows
+    }
+
+    /// How many columns each row has.
+    pub fn width(&self) -> usize
+        ensures { All (λ row. length row ≡ result) self.now }
+    {
+        self.columns.len()
     }
 
     /// The cell of a row and a column, both counted from 0 in the order of the file.

@@ -8,5 +8,5 @@ pub returns-clause-told : goal.returns-clause-told
 returns-clause-told g c =
     let contents = g.F.Files.contents c.args.files.now in
     let catalog = c.in_ok-catalog.catalog in
-    let answered = subst (λ x. AgreesTold (λ (v : Vec ℕ Global). v.items) c.answer_query.result x (λ held. query_in held c.args.run.now.statement.now catalog)) c.in_ok-catalog.ensures.same c.answer_query.ensures.told in
-    told_then (λ v. v.items) contents (λ held. catalogue_in held c.args.run.now.catalogue.now) (λ held. query_in held c.args.run.now.statement.now) catalog c.answer_query.result c.in_ok-catalog.ensures.told answered
+    let answered = subst (λ x. AgreesTold (λ (v : Vec ℕ Global). v.items) c.answer_query.result x (λ held. query_in held c.args.statement.now catalog)) c.in_ok-catalog.ensures.same c.answer_query.ensures.told in
+    told_then (λ v. v.items) contents (λ held. catalogue_in held c.args.catalogue.now) (λ held. query_in held c.args.statement.now) catalog c.answer_query.result c.in_ok-catalog.ensures.told answered

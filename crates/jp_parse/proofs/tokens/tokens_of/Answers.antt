@@ -1,7 +1,8 @@
 use Rattle.std.proofs.Common.{◌≡◌, true, false, get_or, sym, ◌∙◌, ap, arith}
 use Rattle.jp_lex.specs.Chars.{is_white}
 use Rattle.jp_parse.proofs.Answers.{passed_on}
-use Rattle.jp_parse.proofs.TokenLemmas.{with_front, past_white, past_token, no_token, at_end}
+use Rattle.jp_parse.proofs.Fronts.{with_front}
+use Rattle.jp_parse.proofs.TokenLemmas.{past_white, past_token, no_token, at_end}
 use Rattle.std.proofs.lemmas.List.{take_rest}
 use Rattle.std.proofs.lemmas.Result.{err_from_is_err_and}
 use Rattle.jp_parse.proofs.tokens.tokens_of.Goals as goal

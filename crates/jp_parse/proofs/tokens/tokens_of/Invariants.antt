@@ -1,6 +1,6 @@
 use Rattle.std.proofs.Common.{◌≡◌, ◌-◌, ◌≤◌, length, drop}
 use Rattle.jp_parse.specs.Tokens.{tokens_from, tokens_of}
-use Rattle.jp_parse.proofs.TokenLemmas.{with_front}
+use Rattle.jp_parse.proofs.Fronts.{with_front}
 use Rattle.jp_parse.proofs.tokens.tokens_of.Given as goal
 
 abbrev pub invariant-loop-at : goal.invariant-loop-at

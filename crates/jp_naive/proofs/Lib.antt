@@ -1,0 +1,6 @@
+pub mod ExampleFacts
+pub mod ListFacts
+pub mod QueryLaws
+pub mod TakesLaw
+pub mod TreeLaws
+pub mod TupleFacts

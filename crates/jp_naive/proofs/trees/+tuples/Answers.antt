@@ -1,0 +1,55 @@
+use Rattle.std.proofs.Common.{◌∙◌, ap, map, fold, refl, rules}
+use Rattle.std.specs.Prelude.{bit_or}
+use Rattle.jp_query.specs.declared.Expr.{the_lemmas}
+use Rattle.jp_query.specs.Meaning.{rels_in, with_member}
+use Rattle.jp_query.specs.Meaning.{tuples_of as meant}
+use Rattle.jp_query.specs.Refs.{union}
+use Rattle.jp_query.specs.Scopes.{rows_of_tables}
+use Rattle.jp_naive.specs.Tuples.{env_of, envs_of}
+use Rattle.jp_naive.proofs.TreeLaws.{join_parts, from_parts, member_taken, takes_more}
+use Rattle.jp_naive.proofs.trees.+tuples.Goals as goal
+
+pub tuples_of-tuples_of-requires-in-Join : goal.tuples_of-tuples_of-requires-in-Join
+tuples_of-tuples_of-requires-in-Join t c =
+    let built = rw c.in-Join.is at c.requires.built in
+    let typed = rw c.in-Join.is at c.requires.typed in
+    let parts = join_parts c.in-Join.kind c.in-Join.left c.in-Join.right c.in-Join.on built typed in
+    (search (rules, the_lemmas), (let h = parts.right_built in cc, let h = parts.right_typed in cc))
+
+pub tuples_of-join-requires-clause-on : goal.tuples_of-join-requires-clause-on
+tuples_of-join-requires-clause-on t c =
+    let built = rw c.in-Join.is at c.requires.built in
+    let typed = rw c.in-Join.is at c.requires.typed in
+    let h = (join_parts c.in-Join.kind c.in-Join.left c.in-Join.right c.in-Join.on built typed).on_built in
+    cc
+
+pub tuples_of-combinations-requires : goal.tuples_of-combinations-requires
+tuples_of-combinations-requires t c =
+    let built = rw c.in-From.is at c.requires.built in
+    let typed = rw c.in-From.is at c.requires.typed in
+    let parts = from_parts c.in-From.members c.in-From.conds built typed in
+    (search (rules, the_lemmas), (let h = parts.built in cc, let h = parts.typed in cc))
+
+pub tuples_of-filtered-requires : goal.tuples_of-filtered-requires
+tuples_of-filtered-requires t c =
+    let built = rw c.in-From.is at c.requires.built in
+    let typed = rw c.in-From.is at c.requires.typed in
+    let h = (from_parts c.in-From.members c.in-From.conds built typed).conds_built in
+    cc
+
+pub combinations-loop-member-preserved : goal.combinations-loop-member-preserved
+combinations-loop-member-preserved t c =
+    let tables = c.args.tables.now.list in
+    let tuples = meant (rows_of_tables tables) in
+    let env = env_of tables c.args.outer.now in
+    record {
+      rels = takes_more (λ a ms. fold bit_or a (map rels_in (map tuples ms))) (λ a m. bit_or a (tuples m).rels) (λ a x xs. refl)
+          c.args.members.now c.loop-member.member-index c.member-item.result c.member-item.is c.loop-member-test.true
+          c.loop-member.all.rels c.in_ok-all-2.all.rels (union (map rels_in (map tuples c.args.members.now))) c.loop-member.invariant.rels
+          (c.in_ok-all-2.ensures.rels ∙ ap (bit_or c.loop-member.all.rels) c.in_ok-more.ensures.rels);
+      tuples = takes_more (λ a ms. fold (with_member env) a (map tuples ms)) (λ a m. with_member env a (tuples m)) (λ a x xs. refl)
+          c.args.members.now c.loop-member.member-index c.member-item.result c.member-item.is c.loop-member-test.true
+          (envs_of tables c.loop-member.all.list.items) (envs_of tables c.in_ok-all-2.all.list.items) _ c.loop-member.invariant.tuples
+          (member_taken (tuples c.member-item.result) env (envs_of tables c.loop-member.all.list.items) (envs_of tables c.in_ok-more.more.list.items) (envs_of tables c.in_ok-all-2.all.list.items)
+          c.in_ok-more.more.rels c.in_ok-more.ensures.rels c.in_ok-more.ensures.tuples c.in_ok-all-2.ensures.tuples);
+    }

@@ -1,0 +1,4 @@
+pub mod Built
+pub mod Example
+pub mod Outputs
+pub mod Tuples

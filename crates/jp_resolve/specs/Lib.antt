@@ -1,0 +1,5 @@
+pub mod Answers
+pub mod Names
+pub mod Resolving
+pub mod Schemas
+pub mod Views
