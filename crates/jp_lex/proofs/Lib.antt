@@ -7,3 +7,4 @@ mod Next
 mod Once
 mod Values
 mod Whole
+pub mod TextLaws

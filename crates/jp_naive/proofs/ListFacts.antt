@@ -1,9 +1,9 @@
 -- One step more of a loop over a list.
 use Rattle.std.proofs.Common.{◌≡◌, ◌∙◌, ap, ap₂, sym, refl, ℕ, zero, suc, ◌+◌, ◌<◌, Bool, true, false, List, [], ◌∷◌, ◌++◌, length, get_or, drop, append_assoc, append-nil, arith}
-use Rattle.std.specs.Prelude.{◌&&◌, filter, map}
+use Rattle.std.specs.Prelude.{◌&&◌, ◌==◌, filter}
 use Rattle.std.specs.List.{list_all}
-use Rattle.std.proofs.lemmas.Bool.{and_parts}
-use Rattle.std.proofs.lemmas.List.{at_drop_more, map-append, length-map, length-append}
+use Rattle.std.proofs.lemmas.Bool.{and_parts, eqb-true}
+use Rattle.std.proofs.lemmas.List.{at_drop_more, length-append}
 use Rattle.std.proofs.lemmas.List.Elements.{filter-append}
 use Rattle.jp_base.specs.declared.truth.Truth.{Truth}
 use Rattle.jp_base.specs.declared.truth.Truth.TheVariants as truth
@@ -11,7 +11,6 @@ use Rattle.jp_query.specs.declared.Expr.{Expr}
 use Rattle.jp_query.specs.Operators.{is_true}
 use Rattle.jp_query.specs.Meaning.{Row, Env, holds, or_else, truth_of}
 use Rattle.jp_naive.specs.Tuples.{values_of}
-use Rattle.jp_naive.specs.declared.tuple.Tuple.{Tuple}
 
 -- what all elements have, one of them has
 pub one_of_all : {X : Type 0} (p : X → Bool) (xs : List X) (i : ℕ) (x : X) → x ≡ get_or xs i x → i < length xs → list_all p xs ≡ true → p x ≡ true
@@ -54,10 +53,17 @@ module _ {X Y : Type 0} (all : List X → List Y) (one : X → List Y) where
 pub filter_first : {X : Type 0} (p : X → Bool) (x : X) (xs : List X) → filter p (x ∷ xs) ≡ filter p (x ∷ []) ++ filter p xs
 filter_first p x xs = filter-append p (x ∷ []) xs
 
+pub every_kept : (tuples : List Env) → filter (holds []) tuples ≡ tuples
+every_kept [] = refl
+every_kept (tuple ∷ tuples) = ap (λ ts. tuple ∷ ts) (every_kept tuples)
+
+-- no condition takes a tuple away
+pub all_kept : (tables : ℕ → List Row) (conds : List Expr) (tuples : List Env) → true ≡ (length conds == 0) → tuples ≡ filter (holds (values_of tables conds)) tuples
+all_kept tables [] tuples e = sym (every_kept tuples)
+all_kept tables (cond ∷ conds) tuples e = absurd (omega (arith, eqb-true (length (cond ∷ conds)) 0 (sym e)))
+
 -- nothing was added, and then the tuple alone
-pub alone_added : (f : Tuple → Env) (old mid new : List Tuple) (added : List Env) (tuple : Tuple) (alone : Env)
-    → map f mid ≡ map f old ++ added → length mid ≡ length old → new ≡ mid ++ tuple ∷ [] → f tuple ≡ alone → map f new ≡ map f old ++ or_else added alone
-alone_added f old mid new [] tuple alone e l n a =
-    ap (map f) n ∙ map-append f mid (tuple ∷ []) ∙ ap₂ (λ (es : List Env) (x : Env). es ++ x ∷ []) (e ∙ append-nil (map f old)) a
-alone_added f old mid new (x ∷ xs) tuple alone e l n a =
-    absurd (omega (arith, l, length-map mid f, length-map old f, length-append (map f old) (x ∷ xs), ap length e))
+pub alone_added : (old mid new added : List Env) (tuple alone : Env)
+    → mid ≡ old ++ added → length mid ≡ length old → new ≡ mid ++ tuple ∷ [] → tuple ≡ alone → new ≡ old ++ or_else added alone
+alone_added old mid new [] tuple alone e l n a = n ∙ ap₂ (λ (es : List Env) (x : Env). es ++ x ∷ []) (e ∙ append-nil old) a
+alone_added old mid new (x ∷ xs) tuple alone e l n a = absurd (omega (arith, l, length-append old (x ∷ xs), ap length e))

@@ -108,11 +108,9 @@ module _ (tables : ℕ → List Row) where
       ∙ rows_are q.columns envs
 
 -- from the rows of the tree's tuples to the query's
-pub rows_mean : (tables : ℕ → List Row) (query : Query) (columns : List Output) (conds : List Expr) (env : Env) (found kept : List Env) (rows : List Row)
-    → QueryParts query → env ≡ outermost → columns ≡ (out-Query query).columns → conds ≡ (out-Query query).conds
-    → found ≡ (tuples_of tables (out-Query query).tree).tuples env → kept ≡ filter (holds (values_of tables conds)) found
-    → rows ≡ map (outputs_at tables columns) kept → rows ≡ meaning tables query outermost
-rows_mean tables query columns conds env found kept rows parts e c d f k r =
-    r ∙ ap₂ (λ (cs : List Output) (es : List Env). map (outputs_at tables cs) es) c
-    (k ∙ ap₂ (λ (ds : List Expr) (es : List Env). filter (holds (values_of tables ds)) es) d (f ∙ ap (tuples_of tables (out-Query query).tree).tuples e))
+pub rows_mean : (tables : ℕ → List Row) (query : Query) (columns : List Output) (conds : List Expr) (found : List Env) (rows : List Row)
+    → QueryParts query → columns ≡ (out-Query query).columns → conds ≡ (out-Query query).conds → found ≡ (tuples_of tables (out-Query query).tree).tuples outermost
+    → rows ≡ map (outputs_at tables columns) (filter (holds (values_of tables conds)) found) → rows ≡ meaning tables query outermost
+rows_mean tables query columns conds found rows parts c d f r =
+    r ∙ ap₂ (λ (cs : List Output) (es : List Env). map (outputs_at tables cs) es) c (ap₂ (λ (ds : List Expr) (es : List Env). filter (holds (values_of tables ds)) es) d f)
     ∙ sym (plain_meaning tables query outermost parts)

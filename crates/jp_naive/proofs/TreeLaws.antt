@@ -1,13 +1,10 @@
 -- What the conditions on a tree say of its parts, and the steps of a FROM list.
-use Rattle.std.proofs.Common.{◌≡◌, ◌∙◌, ap, ap₂, sym, subst, refl, ℕ, ◌+◌, ◌<◌, inl, inr, Bool, true, List, [], ◌∷◌, ◌++◌, length, get_or, drop, map, arith}
-use Rattle.std.specs.Prelude.{◌&&◌, filter}
+use Rattle.std.proofs.Common.{◌≡◌, ◌∙◌, ap, ap₂, sym, refl, ℕ, ◌+◌, ◌<◌, Bool, true, List, [], ◌∷◌, ◌++◌, append-nil, length, get_or, drop, map}
+use Rattle.std.specs.Prelude.{◌&&◌, Option}
 use Rattle.std.specs.List.{list_all, flat_map}
-use Rattle.std.proofs.lemmas.Bool.{and_parts, and_from, cases_eq}
+use Rattle.std.proofs.lemmas.Bool.{and_parts, and_from}
 use Rattle.std.proofs.lemmas.List.{at_drop_more}
 use Rattle.std.proofs.lemmas.List.Folds.{list_all-map}
-use Rattle.std.proofs.lemmas.Nat.Bits.{bit_at-pow_same, bit_at-pow_other}
-use Rattle.jp_base.specs.Sets.{Has, IsOnly}
-use Rattle.jp_base.proofs.SetLemmas.{same_set}
 use Rattle.jp_query.specs.declared.JoinKind.{JoinKind}
 use Rattle.jp_query.specs.declared.JoinKind.TheVariants as join
 use Rattle.jp_query.specs.declared.JoinTree.TheVariants as tree
@@ -15,13 +12,16 @@ use Rattle.jp_query.specs.declared.Expr.{Expr}
 use Rattle.jp_query.specs.declared.Expr.TheOpen.{JoinTree-F}
 use Rattle.jp_query.specs.declared.JoinTree.{JoinTree}
 use Rattle.jp_query.specs.Conditions.{all_true}
-use Rattle.jp_query.specs.Meaning.{Env, Tuples, with_rows, holds, pairs, with_member}
-use Rattle.jp_query.specs.Refs.{only}
+use Rattle.jp_query.specs.Meaning.{Env, Tuples, with_rows, pairs, with_member}
 use Rattle.jp_query.specs.Typing.{Typed, TypedOutput, TypedQuery, are_conditions, expr_type, tree_typed, order_typed, output_typed, query_typed, tree_is_typed, type_of}
 use Rattle.jp_query.proofs.FoldLaws as laws
 use Rattle.jp_eval.specs.Evaluable.{evaluable_level}
-use Rattle.jp_naive.specs.Built.{tree_built, order_built, output_built, query_built, expr_is_built, tree_is_built}
-use Rattle.jp_naive.specs.Tuples.{is_joined}
+use Rattle.jp_naive.specs.Built.{TableRows, outermost, tree_built, order_built, output_built, query_built, expr_is_built, tree_is_built}
+use Rattle.jp_naive.specs.Found.{Found}
+use Rattle.jp_naive.specs.Tuples.{envs_in, envs_of, is_joined, rels_of}
+use Rattle.jp_naive.specs.declared.tuple.Leaf.{Leaf}
+use Rattle.jp_naive.proofs.ListFacts.{every_kept}
+use Rattle.jp_naive.proofs.TupleFacts.{tuples_alone}
 
 -- ---- the conditions
 
@@ -86,16 +86,7 @@ from_parts members conds built typed =
     let t = and_parts (list_all tree_is_typed members) (are_conditions (map type_of conds)) (sym (typed-From members conds) ∙ typed) in
     record { built = b.0; typed = t.0; conds_built = b.1 }
 
--- ---- the sets and the tuples of FROM
-
-pub only_is : (rel r : ℕ) → IsOnly rel r → r ≡ only rel
-only_is rel r o = same_set r (only rel) (λ i. (λ h. subst (Has (only rel)) (sym ((o i).0 h)) (bit_at-pow_same rel), λ h. (o i).1 (at i h)))
-  where
-    at : (i : ℕ) → Has (only rel) i → i ≡ rel
-    at i h = elim (cases_eq i rel) [
-      | inl same ↦ same
-      | inr other ↦ absurd (omega (arith, bit_at-pow_other rel i other, h))
-    ]
+-- ---- the tuples of FROM
 
 -- a loop that takes one element after another into what it has
 pub takes_more : {A X C : Type 0} (all : A → List X → C) (next : A → X → A) → ((a : A) (x : X) (xs : List X) → all a (x ∷ xs) ≡ all (next a x) xs)
@@ -103,19 +94,23 @@ pub takes_more : {A X C : Type 0} (all : A → List X → C) (next : A → X →
 takes_more all next step xs i x is there so_far more whole e m =
     ap (λ a. all a (drop (i + 1) xs)) m ∙ sym (at_drop_more (all so_far) xs i x there ∙ ap (λ y. all so_far (y ∷ drop (i + 1) xs)) (sym is) ∙ step so_far x (drop (i + 1) xs)) ∙ e
 
-all_kept : (tuples : List Env) → filter (holds []) tuples ≡ tuples
-all_kept [] = refl
-all_kept (tuple ∷ tuples) = ap (λ ts. tuple ∷ ts) (all_kept tuples)
-
 pairs_all : (rels : ℕ) (rights lefts : List Env) → flat_map (pairs [] rels rights) lefts ≡ flat_map (λ left. map (with_rows rels left) rights) lefts
 pairs_all rels rights [] = refl
-pairs_all rels rights (left ∷ lefts) = ap₂ (λ (ts us : List Env). ts ++ us) (all_kept (map (with_rows rels left) rights)) (pairs_all rels rights lefts)
+pairs_all rels rights (left ∷ lefts) = ap₂ (λ (ts us : List Env). ts ++ us) (every_kept (map (with_rows rels left) rights)) (pairs_all rels rights lefts)
 
 -- a join without conditions takes one member of FROM
 pub member_taken : (member : Tuples) (env : Env) (lefts rights new : List Env) (rels : ℕ) → rels ≡ member.rels → rights ≡ member.tuples env
     → new ≡ flat_map (pairs [] rels rights) lefts → new ≡ with_member env lefts member
 member_taken member env lefts rights new rels e r n =
     n ∙ pairs_all rels rights lefts ∙ ap₂ (λ (s : ℕ) (ts : List Env). flat_map (λ left. map (with_rows s left) ts) lefts) e r
+
+-- the tuples of the first member are its own
+pub first_member : (tables : TableRows) (left right : Found) → left.leaves ≡ [] → left.list ≡ [] ∷ [] → envs_in tables right ≡ flat_map (pairs [] (rels_of right.leaves) (envs_in tables right)) (envs_in tables left)
+first_member tables left right e l =
+    let rights = envs_in tables right in
+    let pairing = pairs [] (rels_of right.leaves) rights in
+    sym (ap₂ (λ (leaves : List Leaf) (list : List (List (Option ℕ))). flat_map pairing (envs_of tables leaves list)) e l
+    ∙ append-nil (pairing outermost) ∙ every_kept (map (with_rows (rels_of right.leaves) outermost) rights) ∙ tuples_alone tables right.leaves right.list)
 
 -- ---- the conditions, from those on the parts
 

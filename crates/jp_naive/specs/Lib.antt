@@ -1,4 +1,5 @@
 pub mod Built
 pub mod Example
+pub mod Found
 pub mod Outputs
 pub mod Tuples

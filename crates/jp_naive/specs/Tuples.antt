@@ -1,35 +1,44 @@
--- What tuples mean: a tuple of places, with the rows of the tables, is an environment.
-use Rattle.std.specs.Prelude.{ℕ, Bool, true, false, List, [], map, Option, Some, None, if◌then◌else◌}
+-- What tuples mean: leaves and row numbers, with the rows of the tables, are an environment.
+use Rattle.std.specs.Prelude.{ℕ, Bool, true, false, List, [], ◌∷◌, ◌==◌, map, Option, Some, None, bit_or, if◌then◌else◌}
 use Rattle.std.specs.List.{slice_index_or}
-use Rattle.jp_query.specs.Meaning.{Row, Env, ValueIn, has, value_of}
+use Rattle.jp_query.specs.Meaning.{Row, Env, ValueIn, value_of}
+use Rattle.jp_query.specs.Refs.{only}
 use Rattle.jp_query.specs.declared.Expr.{Expr}
 use Rattle.jp_query.specs.declared.JoinKind.{JoinKind}
 use Rattle.jp_query.specs.declared.JoinKind.TheVariants as join
 use Rattle.jp_query.specs.Scopes.{rows_of_tables}
 use Rattle.jp_naive.specs.Built.{TableRows}
-use Rattle.jp_naive.specs.declared.tuple.Place.{Place}
-use Rattle.jp_naive.specs.declared.tuple.Tuple.{Tuple}
+use Rattle.jp_naive.specs.Found.{Found}
+use Rattle.jp_naive.specs.declared.env.Place.{Place}
+use Rattle.jp_naive.specs.declared.tuple.Leaf.{Leaf}
 
-abbrev pub place_of : Tuple → ℕ → Option Place
-place_of tuple rel = slice_index_or tuple.places rel None
+abbrev pub row_at : TableRows → ℕ → Option ℕ → Option Row
+row_at tables table None = None
+row_at tables table (Some row) = Some (slice_index_or (rows_of_tables tables table) row [])
 
--- the place of a relation in one tuple, or in the other if the set has the relation
-abbrev pub chosen : ℕ → Tuple → Tuple → ℕ → Option Place
-chosen rels left right rel = if has rels rel then place_of right rel else place_of left rel
+abbrev pub row_in : TableRows → Option Place → Option Row
+row_in tables None = None
+row_in tables (Some place) = row_at tables place.table (Some place.row)
 
-abbrev pub row_of : TableRows → Place → Row
-row_of tables place = slice_index_or (rows_of_tables tables place.table) place.row []
+-- a relation has the row of its leaf, the first of its number, and no row where it has no leaf
+abbrev pub env_of : TableRows → List Leaf → List (Option ℕ) → Env
+env_of tables [] rows rel = None
+env_of tables (leaf ∷ leaves) [] rel = None
+env_of tables (leaf ∷ leaves) (row ∷ rows) rel = if rel == leaf.rel then row_at tables leaf.table row else env_of tables leaves rows rel
 
-abbrev pub row_at : TableRows → Option Place → Option Row
-row_at tables None = None
-row_at tables (Some place) = Some (row_of tables place)
+abbrev pub envs_of : TableRows → List Leaf → List (List (Option ℕ)) → List Env
+envs_of tables leaves list = map (env_of tables leaves) list
 
--- a relation has the row that stands at its place
-abbrev pub env_of : TableRows → Tuple → Env
-env_of tables tuple rel = row_at tables (place_of tuple rel)
+abbrev pub envs_in : TableRows → Found → List Env
+envs_in tables found = envs_of tables found.leaves found.list
 
-abbrev pub envs_of : TableRows → List Tuple → List Env
-envs_of tables tuples = map (env_of tables) tuples
+abbrev pub absent : Leaf → Option ℕ
+absent leaf = None
+
+-- the relations of the leaves
+abbrev pub rels_of : List Leaf → ℕ
+rels_of [] = 0
+rels_of (leaf ∷ leaves) = bit_or (only leaf.rel) (rels_of leaves)
 
 abbrev pub values_of : (ℕ → List Row) → List Expr → List ValueIn
 values_of tables exprs = map (value_of tables) exprs

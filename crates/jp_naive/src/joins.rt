@@ -1,25 +1,18 @@
-ghost use Rattle.std.specs.Prelude.{◌≡◌, ◌++◌, ◌∷◌, [], IfOk, OnOk, bit_or, filter, true};
+ghost use Rattle.std.specs.Prelude.{◌≡◌, ◌++◌, ◌∷◌, [], IfOk, OnOk, bit_or, filter, length, map, true};
 ghost use Rattle.std.specs.List.{flat_map, list_all};
 ghost use Rattle.jp_query.specs.Joins.{join_rels};
 ghost use Rattle.jp_query.specs.Meaning.{holds, join_tuples, pairs, pairs_or_alone};
 ghost use Rattle.jp_query.specs.Meaning.{left_join as left_join_of};
 ghost use Rattle.jp_query.specs.Scopes.{rows_of_tables};
 ghost use Rattle.jp_naive.specs.Built.{expr_is_built};
-ghost use Rattle.jp_naive.specs.Tuples.{env_of, envs_of, is_joined, values_of};
+ghost use Rattle.jp_naive.specs.Tuples.{absent, env_of, envs_in, is_joined, rels_of, values_of};
 
 use crate::env::passes;
-use crate::tuple::Tuple;
-use jp_base::{Memory, RelSet};
+use crate::tuple::{Leaf, Tuple, Tuples};
+use jp_base::Memory;
 use jp_query::{Expr, JoinKind};
 use jp_table::Tables;
 use std::alloc::Global;
-
-/// The tuples of a join tree, and the relations that they give rows to.
-#[derive(Drop)]
-pub struct Tuples {
-    pub rels: RelSet,
-    pub list: Vec<Tuple>,
-}
 
 /// The tuples of a join of two trees' tuples.
 pub fn join(
@@ -32,46 +25,39 @@ pub fn join(
 ) -> Result<Tuples, Memory>
     requires joined { is_joined kind ≡ true }
     requires on { list_all expr_is_built on.now ≡ true }
-    ensures rels { IfOk result (λ t. t.rels ≡ join_rels kind left.now.rels right.now.rels) }
-    ensures tuples { IfOk result (λ t. envs_of tables.now.list t.list.items ≡
-        join_tuples kind (values_of (rows_of_tables tables.now.list) on.now) left.now.rels (envs_of tables.now.list left.now.list.items) right.now.rels (envs_of tables.now.list right.now.list.items)) }
+    ensures rels { IfOk result (λ t. rels_of t.leaves ≡ join_rels kind (rels_of left.now.leaves) (rels_of right.now.leaves)) }
+    ensures tuples { IfOk result (λ t. envs_in tables.now.list t ≡
+        join_tuples kind (values_of (rows_of_tables tables.now.list) on.now) (rels_of left.now.leaves) (envs_in tables.now.list left.now) (rels_of right.now.leaves) (envs_in tables.now.list right.now)) }
 {
-    let rels = either(left.rels, right.rels);
     match kind {
         JoinKind::Inner => {
-            let list = inner_join(alloc, left.list.as_slice(), right, on, tables)?;
-            Ok(Tuples { rels, list })
+            let list = inner_join(alloc, left, right, on, tables)?;
+            Ok(list)
         }
         JoinKind::Left => {
-            let list = left_join(alloc, left.list.as_slice(), right, on, tables)?;
-            Ok(Tuples { rels, list })
+            let list = left_join(alloc, left, right, on, tables)?;
+            Ok(list)
         }
         _ => unreachable!(),
     }
 }
 
-/// The relations of both sets.
-fn either(a: RelSet, b: RelSet) -> RelSet
-    ensures { result ≡ bit_or a b }
-{
-    a.union(b)
-}
-
 /// The pairs of the left and right tuples for which the conditions hold, the left tuple slowest.
 fn inner_join(
     alloc: Global,
-    lefts: &[Tuple],
+    left: &Tuples,
     right: &Tuples,
     on: &[Expr],
     tables: &Tables,
-) -> Result<Vec<Tuple>, Memory>
+) -> Result<Tuples, Memory>
     requires { list_all expr_is_built on.now ≡ true }
-    ensures { IfOk result (λ v. envs_of tables.now.list v.items ≡
-        flat_map (pairs (values_of (rows_of_tables tables.now.list) on.now) right.now.rels (envs_of tables.now.list right.now.list.items)) (envs_of tables.now.list lefts.now)) }
+    ensures rels { IfOk result (λ t. rels_of t.leaves ≡ bit_or (rels_of left.now.leaves) (rels_of right.now.leaves)) }
+    ensures tuples { IfOk result (λ t. envs_in tables.now.list t ≡
+        flat_map (pairs (values_of (rows_of_tables tables.now.list) on.now) (rels_of right.now.leaves) (envs_in tables.now.list right.now)) (envs_in tables.now.list left.now)) }
 {
-    let mut list = Vec::new(alloc);
-    for left in lefts {
-        push_pairs(&mut list, left, right, on, tables)?;
+    let mut list = Tuples::new(alloc, joined(alloc, right.leaves(), left.leaves())?);
+    for at in 0..left.len() {
+        push_pairs(alloc, &mut list, left.tuple(at), right, on, tables)?;
     }
     Ok(list)
 }
@@ -79,97 +65,170 @@ fn inner_join(
 /// For each left tuple its pairs, or, if there are none, itself with the right relations absent.
 fn left_join(
     alloc: Global,
-    lefts: &[Tuple],
+    left: &Tuples,
     right: &Tuples,
     on: &[Expr],
     tables: &Tables,
-) -> Result<Vec<Tuple>, Memory>
+) -> Result<Tuples, Memory>
     requires { list_all expr_is_built on.now ≡ true }
-    ensures { IfOk result (λ v. envs_of tables.now.list v.items ≡
-        left_join_of (values_of (rows_of_tables tables.now.list) on.now) right.now.rels (envs_of tables.now.list lefts.now) (envs_of tables.now.list right.now.list.items)) }
+    ensures rels { IfOk result (λ t. rels_of t.leaves ≡ bit_or (rels_of left.now.leaves) (rels_of right.now.leaves)) }
+    ensures tuples { IfOk result (λ t. envs_in tables.now.list t ≡
+        left_join_of (values_of (rows_of_tables tables.now.list) on.now) (rels_of right.now.leaves) (envs_in tables.now.list left.now) (envs_in tables.now.list right.now)) }
 {
-    let mut list = Vec::new(alloc);
-    for left in lefts {
-        push_pairs_or_alone(&mut list, left, right, on, tables)?;
+    let mut list = Tuples::new(alloc, joined(alloc, right.leaves(), left.leaves())?);
+    for at in 0..left.len() {
+        push_pairs_or_alone(alloc, &mut list, left.tuple(at), right, on, tables)?;
     }
     Ok(list)
 }
 
 /// Adds the pairs of a left tuple, or, if there are none, the tuple with the right relations absent.
 fn push_pairs_or_alone(
-    list: &mut Vec<Tuple>,
-    left: &Tuple,
+    alloc: Global,
+    list: &mut Tuples,
+    left: Tuple<'_>,
     right: &Tuples,
     on: &[Expr],
     tables: &Tables,
 ) -> Result<(), Memory>
-    requires { list_all expr_is_built on.now ≡ true }
-    ensures { OnOk result (envs_of tables.now.list list.new.items ≡ envs_of tables.now.list list.old.items
-        ++ pairs_or_alone (values_of (rows_of_tables tables.now.list) on.now) right.now.rels (envs_of tables.now.list right.now.list.items) (env_of tables.now.list left.now)) }
+    requires on { list_all expr_is_built on.now ≡ true }
+    requires leaves { list.now.leaves ≡ right.now.leaves ++ left.leaves.now }
+    requires whole { length left.rows.now ≡ length left.leaves.now }
+    ensures leaves { list.new.leaves ≡ list.old.leaves }
+    ensures more { OnOk result (envs_in tables.now.list list.new ≡ envs_in tables.now.list list.old
+        ++ pairs_or_alone (values_of (rows_of_tables tables.now.list) on.now) (rels_of right.now.leaves) (envs_in tables.now.list right.now) (env_of tables.now.list left.entry.leaves.now left.entry.rows.now)) }
 {
     let before = list.len();
-    push_pairs(list, left, right, on, tables)?;
+    push_pairs(alloc, list, left, right, on, tables)?;
     if list.len() == before {
-        match list.push(left.without(right.rels)) {
-            Ok(()) => {}
-            Err(_) => return Err(Memory),
-        }
+        let missing = nowhere(alloc, right.leaves())?;
+        let alone = joined(alloc, missing.as_slice(), left.rows)?;
+        list.push(alone.as_slice())?;
     }
     Ok(())
 }
 
 /// Adds the pairs of a left tuple with the right tuples for which the conditions hold, in the order of the right ones.
 fn push_pairs(
-    list: &mut Vec<Tuple>,
-    left: &Tuple,
+    alloc: Global,
+    list: &mut Tuples,
+    left: Tuple<'_>,
     right: &Tuples,
     on: &[Expr],
     tables: &Tables,
 ) -> Result<(), Memory>
-    requires { list_all expr_is_built on.now ≡ true }
-    ensures { OnOk result (envs_of tables.now.list list.new.items ≡ envs_of tables.now.list list.old.items
-        ++ pairs (values_of (rows_of_tables tables.now.list) on.now) right.now.rels (envs_of tables.now.list right.now.list.items) (env_of tables.now.list left.now)) }
+    requires on { list_all expr_is_built on.now ≡ true }
+    requires leaves { list.now.leaves ≡ right.now.leaves ++ left.leaves.now }
+    requires whole { length left.rows.now ≡ length left.leaves.now }
+    ensures leaves { list.new.leaves ≡ list.old.leaves }
+    ensures more { OnOk result (envs_in tables.now.list list.new ≡ envs_in tables.now.list list.old
+        ++ pairs (values_of (rows_of_tables tables.now.list) on.now) (rels_of right.now.leaves) (envs_in tables.now.list right.now) (env_of tables.now.list left.entry.leaves.now left.entry.rows.now)) }
 {
-    for other in &right.list {
-        push_passing(list, left.with_rows(right.rels, other), on, tables)?;
+    for at in 0..right.len() {
+        let pair = joined(alloc, right.tuple(at).rows, left.rows)?;
+        push_passing(list, pair.as_slice(), on, tables)?;
     }
     Ok(())
+}
+
+/// Rows for none of the leaves.
+fn nowhere(alloc: Global, leaves: &[Leaf]) -> Result<Vec<Option<u64>>, Memory>
+    ensures { IfOk result (λ v. v.items ≡ map absent leaves.now) }
+{
+    let mut list = Vec::new(alloc);
+    for _ in leaves {
+        match list.push(None) {
+            Ok(()) => {}
+            Err(_) => return Err(Memory),
+        }
+    }
+    Ok(list)
+}
+
+/// The first list, followed by the second.
+fn joined<T: Copy>(alloc: Global, first: &[T], second: &[T]) -> Result<Vec<T>, Memory>
+    ensures { IfOk result (λ v. v.items ≡ first.now ++ second.now) }
+{
+    let mut list = Vec::new(alloc);
+    match list.extend_from_slice(first) {
+        Ok(()) => {}
+        Err(_) => return Err(Memory),
+    }
+    match list.extend_from_slice(second) {
+        Ok(()) => {}
+        Err(_) => return Err(Memory),
+    }
+    Ok(list)
 }
 
 /// The tuples for which the conditions hold, in their order.
 pub fn filtered(
     alloc: Global,
-    tuples: &[Tuple],
+    tuples: Tuples,
     conds: &[Expr],
     tables: &Tables,
-) -> Result<Vec<Tuple>, Memory>
+) -> Result<Tuples, Memory>
     requires { list_all expr_is_built conds.now ≡ true }
-    ensures { IfOk result (λ v. envs_of tables.now.list v.items ≡
-        filter (holds (values_of (rows_of_tables tables.now.list) conds.now)) (envs_of tables.now.list tuples.now)) }
+    ensures leaves { IfOk result (λ t. t.leaves ≡ tuples.leaves) }
+    ensures tuples { IfOk result (λ t. envs_in tables.now.list t ≡
+        filter (holds (values_of (rows_of_tables tables.now.list) conds.now)) (envs_in tables.now.list tuples)) }
 {
-    let mut list = Vec::new(alloc);
-    for tuple in tuples {
-        push_passing(&mut list, *tuple, conds, tables)?;
+    if conds.is_empty() {
+        return Ok(tuples);
+    }
+    let kept = kept_of(alloc, &tuples, conds, tables)?;
+    Ok(kept)
+}
+
+fn kept_of(
+    alloc: Global,
+    tuples: &Tuples,
+    conds: &[Expr],
+    tables: &Tables,
+) -> Result<Tuples, Memory>
+    requires { list_all expr_is_built conds.now ≡ true }
+    ensures leaves { IfOk result (λ t. t.leaves ≡ tuples.now.leaves) }
+    ensures tuples { IfOk result (λ t. envs_in tables.now.list t ≡
+        filter (holds (values_of (rows_of_tables tables.now.list) conds.now)) (envs_in tables.now.list tuples.now)) }
+{
+    let mut list = Tuples::new(alloc, joined(alloc, tuples.leaves(), &[])?);
+    for at in 0..tuples.len() {
+        push_passing(&mut list, tuples.tuple(at).rows, conds, tables)?;
     }
     Ok(list)
 }
 
 /// Adds the tuple if the conditions hold for it.
 fn push_passing(
-    list: &mut Vec<Tuple>,
-    tuple: Tuple,
+    list: &mut Tuples,
+    rows: &[Option<u64>],
     conds: &[Expr],
     tables: &Tables,
 ) -> Result<(), Memory>
-    requires { list_all expr_is_built conds.now ≡ true }
-    ensures { OnOk result (envs_of tables.now.list list.new.items ≡ envs_of tables.now.list list.old.items
-        ++ filter (holds (values_of (rows_of_tables tables.now.list) conds.now)) (env_of tables.now.list tuple ∷ [])) }
+    requires conds { list_all expr_is_built conds.now ≡ true }
+    requires whole { length rows.now ≡ length list.now.leaves }
+    ensures leaves { list.new.leaves ≡ list.old.leaves }
+    ensures more { OnOk result (envs_in tables.now.list list.new ≡ envs_in tables.now.list list.old
+        ++ filter (holds (values_of (rows_of_tables tables.now.list) conds.now)) (env_of tables.now.list list.old.leaves rows.now ∷ [])) }
 {
-    if !passes(conds, tables, &tuple)? {
+    if !is_passing(list, rows, conds, tables)? {
         return Ok(());
     }
-    match list.push(tuple) {
-        Ok(()) => Ok(()),
-        Err(_) => Err(Memory),
-    }
+    list.push(rows)?;
+    Ok(())
+}
+
+/// Whether the conditions hold for a tuple of the list's leaves.
+fn is_passing(
+    list: &Tuples,
+    rows: &[Option<u64>],
+    conds: &[Expr],
+    tables: &Tables,
+) -> Result<bool, Memory>
+    requires { list_all expr_is_built conds.now ≡ true }
+    ensures { IfOk result (λ b. b ≡ holds (values_of (rows_of_tables tables.now.list) conds.now) (env_of tables.now.list list.now.leaves rows.now)) }
+{
+    let leaves = list.leaves();
+    let passing = passes(conds, tables, Tuple { leaves, rows })?;
+    Ok(passing)
 }

@@ -16,14 +16,12 @@ mod tests;
 mod trees;
 mod tuple;
 
-use joins::filtered;
 use jp_base::{Memory, Row};
 use jp_query::Query;
 use jp_table::Tables;
 use outputs::output_rows;
 use std::alloc::Global;
 use trees::tuples_of;
-use tuple::Tuple;
 
 /// The rows of a query over the tables of its catalogue, in the order that its meaning gives them. So far a query has base
 /// tables, FROM lists, inner and left joins, and expressions that the evaluator takes; it has no DISTINCT, no ORDER BY
@@ -35,8 +33,8 @@ pub fn meaning_of(alloc: Global, query: &Query, tables: &Tables) -> Result<Vec<R
     requires built { IsBuilt query.now }
     ensures { IfOk result (λ v. v.items ≡ meaning (rows_of_tables tables.now.list) query.now outermost) }
 {
-    let all = tuples_of(alloc, &query.tree, tables, &Tuple::empty())?;
-    let kept = filtered(alloc, all.list.as_slice(), query.conds.as_slice(), tables)?;
-    let rows = output_rows(alloc, kept.as_slice(), query.columns.as_slice(), tables)?;
+    let all = tuples_of(alloc, &query.tree, tables)?;
+    let conds = query.conds.as_slice();
+    let rows = output_rows(alloc, &all, conds, query.columns.as_slice(), tables)?;
     Ok(rows)
 }

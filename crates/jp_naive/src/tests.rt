@@ -123,14 +123,23 @@ fn join(alloc: Global, kind: JoinKind, on: Items<Expr>) -> Result<JoinTree, Fail
 fn ids(alloc: Global, tree: &JoinTree, tables: &Tables) -> Result<Vec<Option<i128>>, Fail>
     requires { (tree_is_built tree.now ≡ true) × (tree_is_typed tree.now ≡ true) }
 {
-    let found = tuples_of(alloc, tree, tables, &Tuple::empty())?;
+    let found = tuples_of(alloc, tree, tables)?;
     let mut numbers = Vec::new(alloc);
-    for tuple in &found.list {
-        let env = TupleEnv { tables, tuple };
-        numbers.push(number(env.cell(0, 0)))?;
-        numbers.push(number(env.cell(1, 0)))?;
+    for at in 0..found.len() {
+        push_ids(&mut numbers, found.tuple(at), tables)?;
     }
     Ok(numbers)
+}
+
+fn push_ids(
+    numbers: &mut Vec<Option<i128>>,
+    tuple: Tuple<'_>,
+    tables: &Tables,
+) -> Result<(), Fail> {
+    let env = TupleEnv { tables, tuple };
+    numbers.push(number(env.cell(0, 0)))?;
+    numbers.push(number(env.cell(1, 0)))?;
+    Ok(())
 }
 
 fn number(cell: Cell<'_>) -> Option<i128> {

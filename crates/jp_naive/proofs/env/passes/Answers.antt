@@ -13,13 +13,13 @@ holds-requires c = takes_it c.cond-item.result (one_of_all expr_is_built c.args.
 pub returns-in_default : goal.returns-in_default
 returns-in_default c =
     let tables = rows_of_tables c.args.tables.now.list in
-    let env = env_of c.args.tables.now.list c.args.tuple.now in
+    let env = env_of c.args.tables.now.list c.args.tuple.leaves.now c.args.tuple.rows.now in
     let fails = ap is_true (sym (c.in_ok-holds.ensures.in_place tables)) ∙ not_true c.in_ok-holds.field-0 c.in_default.not-True in
     sym (sym c.loop-cond.invariant ∙ cond_fails tables env c.args.conds.now c.loop-cond.cond-index c.cond-item.result c.cond-item.is c.loop-cond-test.true fails)
 
 pub loop-cond-preserved : goal.loop-cond-preserved
 loop-cond-preserved c =
     let tables = rows_of_tables c.args.tables.now.list in
-    let env = env_of c.args.tables.now.list c.args.tuple.now in
+    let env = env_of c.args.tables.now.list c.args.tuple.leaves.now c.args.tuple.rows.now in
     let there = ap is_true (sym (c.in_ok-holds.ensures.in_place tables) ∙ c.in-True.is) in
     sym (cond_holds tables env c.args.conds.now c.loop-cond.cond-index c.cond-item.result c.cond-item.is c.loop-cond-test.true there) ∙ c.loop-cond.invariant

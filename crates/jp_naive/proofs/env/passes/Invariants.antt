@@ -6,5 +6,5 @@ use Rattle.jp_naive.proofs.env.passes.Given as goal
 
 abbrev pub invariant-loop-cond : goal.invariant-loop-cond
 invariant-loop-cond l =
-    holds (values_of (rows_of_tables l.tables.list) (drop l.cond-index l.conds)) (env_of l.tables.list l.tuple)
-    ≡ holds (values_of (rows_of_tables l.tables.list) l.conds) (env_of l.tables.list l.tuple)
+    holds (values_of (rows_of_tables l.tables.list) (drop l.cond-index l.conds)) (env_of l.tables.list l.tuple.leaves.now l.tuple.rows.now)
+    ≡ holds (values_of (rows_of_tables l.tables.list) l.conds) (env_of l.tables.list l.tuple.leaves.now l.tuple.rows.now)

@@ -1,8 +1,9 @@
 use Rattle.std.proofs.Common.{ℕ, ◌<◌}
 use Rattle.std.specs.Prelude.{◌↔◌, IsSome}
 use Rattle.jp_base.specs.Sets.{Has}
-use Rattle.jp_naive.specs.Tuples.{place_of}
+use Rattle.jp_naive.specs.Built.{TableRows}
+use Rattle.jp_naive.specs.Tuples.{env_of}
 use Rattle.jp_naive.proofs.env.relations.Given as goal
 
 abbrev pub invariant-loop-rel : goal.invariant-loop-rel
-invariant-loop-rel l = (i : ℕ) → Has l.present i ↔ ((i < l.rel) × IsSome (place_of l.tuple i))
+invariant-loop-rel l = (tables : TableRows) (i : ℕ) → Has l.present i ↔ ((i < l.rel) × IsSome (env_of tables l.tuple.leaves.now l.tuple.rows.now i))

@@ -12,7 +12,7 @@ eval-requires c = takes_it c.column-item.result.expr (one_of_all output_is_built
 pub loop-column-preserved : goal.loop-column-preserved
 loop-column-preserved c =
     let tables = rows_of_tables c.args.tables.now.list in
-    let env = env_of c.args.tables.now.list c.args.tuple.now in
+    let env = env_of c.args.tables.now.list c.args.tuple.leaves.now c.args.tuple.rows.now in
     gathers_more (λ columns. outputs_at tables columns env) (λ column. output_at tables env column ∷ []) (λ x xs. refl)
     c.args.columns.now c.loop-column.column-index c.column-item.result c.loop-column-test.true
     c.loop-column.row c.push.new.self (outputs_at tables c.args.columns.now env) c.loop-column.invariant

@@ -1,10 +1,13 @@
 use Rattle.std.proofs.Common.{◌≡◌, ◌++◌, drop, map}
+use Rattle.std.specs.Prelude.{filter}
+use Rattle.jp_query.specs.Meaning.{holds}
 use Rattle.jp_query.specs.Scopes.{rows_of_tables}
 use Rattle.jp_naive.specs.Outputs.{outputs_at}
-use Rattle.jp_naive.specs.Tuples.{envs_of}
+use Rattle.jp_naive.specs.Tuples.{envs_in, envs_of, values_of}
 use Rattle.jp_naive.proofs.outputs.output_rows.Given as goal
 
-abbrev pub invariant-loop-tuple : goal.invariant-loop-tuple
-invariant-loop-tuple l =
+abbrev pub invariant-loop-at : goal.invariant-loop-at
+invariant-loop-at l =
     let row = outputs_at (rows_of_tables l.tables.list) l.columns in
-    l.rows.items ++ map row (envs_of l.tables.list (drop l.tuple-index l.tuples)) ≡ map row (envs_of l.tables.list l.tuples)
+    let test = holds (values_of (rows_of_tables l.tables.list) l.conds) in
+    l.rows.items ++ map row (filter test (envs_of l.tables.list l.tuples.leaves (drop l.at l.tuples.list))) ≡ map row (filter test (envs_in l.tables.list l.tuples))

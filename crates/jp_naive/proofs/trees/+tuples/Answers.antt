@@ -5,7 +5,8 @@ use Rattle.jp_query.specs.Meaning.{rels_in, with_member}
 use Rattle.jp_query.specs.Meaning.{tuples_of as meant}
 use Rattle.jp_query.specs.Refs.{union}
 use Rattle.jp_query.specs.Scopes.{rows_of_tables}
-use Rattle.jp_naive.specs.Tuples.{env_of, envs_of}
+use Rattle.jp_naive.specs.Built.{outermost}
+use Rattle.jp_naive.specs.Tuples.{envs_in, rels_of}
 use Rattle.jp_naive.proofs.TreeLaws.{join_parts, from_parts, member_taken, takes_more}
 use Rattle.jp_naive.proofs.trees.+tuples.Goals as goal
 
@@ -41,15 +42,14 @@ pub combinations-loop-member-preserved : goal.combinations-loop-member-preserved
 combinations-loop-member-preserved t c =
     let tables = c.args.tables.now.list in
     let tuples = meant (rows_of_tables tables) in
-    let env = env_of tables c.args.outer.now in
     record {
       rels = takes_more (λ a ms. fold bit_or a (map rels_in (map tuples ms))) (λ a m. bit_or a (tuples m).rels) (λ a x xs. refl)
           c.args.members.now c.loop-member.member-index c.member-item.result c.member-item.is c.loop-member-test.true
-          c.loop-member.all.rels c.in_ok-all-2.all.rels (union (map rels_in (map tuples c.args.members.now))) c.loop-member.invariant.rels
-          (c.in_ok-all-2.ensures.rels ∙ ap (bit_or c.loop-member.all.rels) c.in_ok-more.ensures.rels);
-      tuples = takes_more (λ a ms. fold (with_member env) a (map tuples ms)) (λ a m. with_member env a (tuples m)) (λ a x xs. refl)
+          (rels_of c.loop-member.all.leaves) (rels_of c.in_ok-all-2.all.leaves) (union (map rels_in (map tuples c.args.members.now))) c.loop-member.invariant.rels
+          (c.in_ok-all-2.ensures.rels ∙ ap (bit_or (rels_of c.loop-member.all.leaves)) c.in_ok-more.ensures.rels);
+      tuples = takes_more (λ a ms. fold (with_member outermost) a (map tuples ms)) (λ a m. with_member outermost a (tuples m)) (λ a x xs. refl)
           c.args.members.now c.loop-member.member-index c.member-item.result c.member-item.is c.loop-member-test.true
-          (envs_of tables c.loop-member.all.list.items) (envs_of tables c.in_ok-all-2.all.list.items) _ c.loop-member.invariant.tuples
-          (member_taken (tuples c.member-item.result) env (envs_of tables c.loop-member.all.list.items) (envs_of tables c.in_ok-more.more.list.items) (envs_of tables c.in_ok-all-2.all.list.items)
-          c.in_ok-more.more.rels c.in_ok-more.ensures.rels c.in_ok-more.ensures.tuples c.in_ok-all-2.ensures.tuples);
+          (envs_in tables c.loop-member.all) (envs_in tables c.in_ok-all-2.all) _ c.loop-member.invariant.tuples
+          (member_taken (tuples c.member-item.result) outermost (envs_in tables c.loop-member.all) (envs_in tables c.in_ok-more.more) (envs_in tables c.in_ok-all-2.all)
+          (rels_of c.in_ok-more.more.leaves) c.in_ok-more.ensures.rels c.in_ok-more.ensures.tuples c.in_ok-all-2.ensures.tuples);
     }

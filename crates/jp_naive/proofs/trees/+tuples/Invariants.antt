@@ -3,14 +3,14 @@ use Rattle.std.specs.Prelude.{bit_or}
 use Rattle.jp_query.specs.Meaning.{combined, rels_in, with_member, tuples_of}
 use Rattle.jp_query.specs.Refs.{union}
 use Rattle.jp_query.specs.Scopes.{rows_of_tables}
-use Rattle.jp_naive.specs.Tuples.{env_of, envs_of}
+use Rattle.jp_naive.specs.Built.{outermost}
+use Rattle.jp_naive.specs.Tuples.{envs_in, rels_of}
 use Rattle.jp_naive.proofs.trees.+tuples.Given as goal
 
 abbrev pub invariant-combinations-loop-member : goal.invariant-combinations-loop-member
 invariant-combinations-loop-member l =
     let meant = tuples_of (rows_of_tables l.tables.list) in
-    let env = env_of l.tables.list l.outer in
     record {
-      rels : fold bit_or l.all.rels (map rels_in (map meant (drop l.member-index l.members))) ≡ union (map rels_in (map meant l.members));
-      tuples : fold (with_member env) (envs_of l.tables.list l.all.list.items) (map meant (drop l.member-index l.members)) ≡ combined (map meant l.members) env;
+      rels : fold bit_or (rels_of l.all.leaves) (map rels_in (map meant (drop l.member-index l.members))) ≡ union (map rels_in (map meant l.members));
+      tuples : fold (with_member outermost) (envs_in l.tables.list l.all) (map meant (drop l.member-index l.members)) ≡ combined (map meant l.members) outermost;
     }

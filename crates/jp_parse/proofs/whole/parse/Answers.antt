@@ -1,0 +1,9 @@
+use Rattle.jp_parse.specs.SeenTokens.{seen_tokens}
+use Rattle.jp_parse.proofs.Fitting.{all_fit, answers}
+use Rattle.jp_parse.proofs.whole.parse.Goals as goal
+
+pub answered-requires : goal.answered-requires
+answered-requires c = let (src, short, tokens) = c.requires in all_fit src c.args.tokens.now short tokens
+
+pub returns : goal.returns
+returns c = answers (seen_tokens c.args.tokens.now) c.answered.result c.answered.ensures
