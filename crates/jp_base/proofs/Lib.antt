@@ -1,3 +1,4 @@
 pub mod GreatestPart
 pub mod SetLemmas
+pub mod ValueOrder
 pub mod WalkLemmas

@@ -1,9 +1,9 @@
 -- Membership of the masks that the operations make.
-use Rattle.std.proofs.Common.{◌≡◌, ℕ, ◌*◌, ◌%◌, ◌^◌, ◌<◌, ◌≤◌, ◌⊎◌, ◌↔◌, inl, inr, sym, ◌∙◌, subst, arith}
+use Rattle.std.proofs.Common.{◌≡◌, ℕ, ◌*◌, ◌-◌, ◌%◌, ◌^◌, ◌<◌, ◌≤◌, ◌⊎◌, ◌↔◌, inl, inr, sym, ◌∙◌, subst, arith}
 use Rattle.std.specs.Int.{bit_at, bit_not, w64, trailing_zeros}
 use Rattle.std.specs.Prelude.{bit_and, bit_or}
 use Rattle.std.proofs.lemmas.Nat.{and_le_l, and_le_r, one_shl}
-use Rattle.std.proofs.lemmas.Nat.Bits.{bit_at_or, bit_at_and, bit_at_not, bit_at-lt, bit_at_above, bit_at-pow_same, bit_at-pow_other, bit_at-trailing_zeros, same_from_bits, bit_at-zero}
+use Rattle.std.proofs.lemmas.Nat.Bits.{bit_at_or, bit_at_and, bit_at_not, bit_at-lt, bit_at_above, bit_at-pow_same, bit_at-pow_other, bit_at-trailing_zeros, bit_at_ones, same_from_bits, bit_at-zero}
 use Rattle.std.proofs.lemmas.Bool.{cases_eq, cases_lt}
 use Rattle.jp_base.specs.Sets.{Has, IsEmpty, Within, Meets, IsSameSet, IsLeastMember}
 
@@ -78,3 +78,7 @@ within_le a b w = subst (λ n. n ≤ b) ((within_and a b).1 w) (and_le_r a b)
 -- what `top & !set` is where it is none
 pub none_outside : (s t : ℕ) → s < 2 ^ 64 → t < 2 ^ 64 → bit_and t (bit_not w64 s) ≡ 0 → Within t s
 none_outside s t small_s small_t e i p = elim (cases_eq (bit_at s i) 1) [ inl q ↦ q | inr n ↦ absurd (empty_zero (bit_and t (bit_not w64 s)) e i ((has_minus t s i small_t small_s).1 (p, n))) ]
+
+-- a mask below 2 ^ 64 is one whose members lie below 64
+pub small_below : (a : ℕ) → a < 2 ^ 64 ↔ ((i : ℕ) → Has a i → i < 64)
+small_below a = (λ small i h. has_below a i small h, λ small. omega (arith, within_le a (2 ^ 64 - 1) (λ i h. bit_at_ones 64 i (small i h))))

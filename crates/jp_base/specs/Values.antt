@@ -1,8 +1,8 @@
 -- The order of two values, and when they are the same.
-use Rattle.std.specs.Prelude.{Bool, true, false, Option, Some, None}
+use Rattle.std.specs.Prelude.{ℕ, Bool, true, false, Option, Some, None}
 use Rattle.std.specs.declared.cmp.Ordering.{Ordering}
 use Rattle.std.specs.declared.cmp.Ordering.TheVariants.{Less, Equal, Greater}
-use Rattle.std.specs.Ordering.{is_eq, nat_cmp, int_cmp, bool_cmp}
+use Rattle.std.specs.Ordering.{is_eq, is_lt, nat_cmp, int_cmp, bool_cmp}
 use Rattle.std.specs.Cmp.Lexicographic.{slice_cmp}
 use Rattle.jp_base.specs.declared.values.Value.{Value}
 use Rattle.jp_base.specs.declared.values.Value.TheVariants as value
@@ -16,6 +16,23 @@ order_of (value.Num a) (value.Num b) = Some (int_cmp a b)
 order_of (value.Bool a) (value.Bool b) = Some (bool_cmp a b)
 order_of (value.Text a) (value.Text b) = Some (slice_cmp nat_cmp a b)
 order_of _ _ = None
+
+-- where a value's type stands in the order of all values
+abbrev pub type_rank : Value → ℕ
+type_rank value.Null = 0
+type_rank (value.Num _) = 1
+type_rank (value.Bool _) = 2
+type_rank (value.Text _) = 3
+
+-- An order of all values: two of one type as above, two NULLs tie, and else the types decide.
+abbrev pub total_order_of : Value → Value → Ordering
+total_order_of (value.Num a) (value.Num b) = int_cmp a b
+total_order_of (value.Bool a) (value.Bool b) = bool_cmp a b
+total_order_of (value.Text a) (value.Text b) = slice_cmp nat_cmp a b
+total_order_of a b = nat_cmp (type_rank a) (type_rank b)
+
+abbrev pub is_below : Value → Value → Bool
+is_below a b = is_lt (total_order_of a b)
 
 -- the value is NULL or of the type
 abbrev pub HasType : Ty → Value → Type 0

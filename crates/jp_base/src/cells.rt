@@ -1,7 +1,11 @@
-ghost use Rattle.std.specs.Prelude.{◌≡◌, ◌↔◌, ◌⊎◌, IfOk, IsNone};
+ghost use Rattle.std.specs.Prelude.{◌≡◌, ◌↔◌, ◌⊎◌, IfOk, IsNone, Some};
+ghost use Rattle.std.specs.Cmp.{IsStrictWeakOrder, IsTotalOrder};
+ghost use Rattle.std.specs.declared.cmp.Ordering.{Ordering};
+ghost use Rattle.std.specs.declared.cmp.Ordering.TheVariants.{Equal};
 ghost use Rattle.jp_base.specs.declared.values.Value.TheVariants as value;
 ghost use Rattle.jp_base.specs.Cells.{value_of_cell};
-ghost use Rattle.jp_base.specs.Values.{order_of, IsComparable};
+ghost use Rattle.jp_base.specs.declared.values.Value.{Value};
+ghost use Rattle.jp_base.specs.Values.{order_of, IsComparable, type_rank, total_order_of, is_below};
 
 use crate::{Memory, Txt, Value};
 use std::alloc::Global;
@@ -47,3 +51,36 @@ pub fn compare(a: Cell<'_>, b: Cell<'_>) -> Option<Ordering>
         _ => None,
     }
 }
+
+/// An order of all values, for sorts and maps: NULL lies below numbers, these below booleans, these below texts. Two
+/// values of one type are in the order of `compare`.
+pub fn total_order(a: Cell<'_>, b: Cell<'_>) -> Ordering
+    ensures { result ≡ total_order_of (value_of_cell a.entry) (value_of_cell b.entry) }
+{
+    match (a, b) {
+        (Cell::Num(a), Cell::Num(b)) => a.cmp(&b),
+        (Cell::Bool(a), Cell::Bool(b)) => a.cmp(&b),
+        (Cell::Text(a), Cell::Text(b)) => a.cmp(b),
+        _ => rank(a).cmp(&rank(b)),
+    }
+}
+
+fn rank(cell: Cell<'_>) -> u8
+    ensures { result ≡ type_rank (value_of_cell cell.entry) }
+{
+    match cell {
+        Cell::Null => 0,
+        Cell::Num(_) => 1,
+        Cell::Bool(_) => 2,
+        Cell::Text(_) => 3,
+    }
+}
+
+/// A law of `total_order`: it is a total order, in which no two values tie but equal ones, and it gives two values the
+/// order that `compare` gives them.
+pub fn values_are_ordered()
+    ensures total { IsTotalOrder total_order_of }
+    ensures weak { IsStrictWeakOrder is_below }
+    ensures equal { (a b : Value) → (total_order_of a b ≡ Equal) ↔ (a ≡ b) }
+    ensures same { (a b : Value) (order : Ordering) → order_of a b ≡ Some order → total_order_of a b ≡ order }
+{}

@@ -9,8 +9,8 @@ mod text;
 mod truth;
 mod values;
 
-pub use cells::{Cell, compare};
-pub use sets::{RelSet, each_part_once, same_members};
+pub use cells::{Cell, compare, total_order, values_are_ordered};
+pub use sets::{RelSet, each_part_once, members_below, same_members};
 pub use text::Txt;
 pub use truth::Truth;
 pub use values::{Row, Ty, Value};

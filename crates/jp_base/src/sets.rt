@@ -1,10 +1,11 @@
-ghost use Rattle.std.specs.Prelude.{◌≡◌, ℕ, ◌<◌, ◌≤◌, ◌↔◌, List, IsTrue, IsNone, IfSome, nat_eq, count_by};
+ghost use Rattle.std.specs.Prelude.{◌≡◌, ℕ, ◌^◌, ◌<◌, ◌≤◌, ◌↔◌, List, IsTrue, IsNone, IfSome, nat_eq, count_by};
 ghost use Rattle.jp_base.specs.Sets.{Has, IsEmpty, IsOnly, IsUnion, IsDifference, Within, Meets, IsSameSet, IsLeastMember, IsGreatestBelow, IsWalk};
 
 use std::marker::Model;
 
 /// A set of numbers below 64, as of relations or items. Contracts see its mask, in which bit i says that i
-/// is a member; `same_members` says that a set is no more than its members.
+/// is a member; `same_members` says that a set is no more than its members. Each call that makes a set says that its
+/// mask lies below 2^64; `members_below` says that its members then lie below 64.
 #[derive(Clone, Copy, Debug, PartialEq, Eq)]
 pub struct RelSet {
     bits: u64,
@@ -26,7 +27,8 @@ impl Model for RelSet {
 impl RelSet {
     /// The set without members.
     pub fn empty() -> RelSet
-        ensures { IsEmpty result }
+        ensures members { IsEmpty result }
+        ensures below { result < 2 ^ 64 }
     {
         RelSet { bits: 0 }
     }
@@ -34,13 +36,15 @@ impl RelSet {
     /// The set of one number.
     pub fn one(i: u8) -> RelSet
         requires { i < 64 }
-        ensures { IsOnly i result }
+        ensures members { IsOnly i result }
+        ensures below { result < 2 ^ 64 }
     {
         RelSet { bits: 1 << i }
     }
 
     pub fn union(self, o: RelSet) -> RelSet
-        ensures { IsUnion self o result }
+        ensures members { IsUnion self o result }
+        ensures below { result < 2 ^ 64 }
     {
         RelSet {
             bits: self.bits | o.bits,
@@ -49,7 +53,8 @@ impl RelSet {
 
     /// The members of `self` that `o` lacks.
     pub fn minus(self, o: RelSet) -> RelSet
-        ensures { IsDifference self o result }
+        ensures members { IsDifference self o result }
+        ensures below { result < 2 ^ 64 }
     {
         RelSet {
             bits: self.bits & !o.bits,
@@ -58,7 +63,8 @@ impl RelSet {
 
     /// Whether the two sets share a member.
     pub fn meets(self, o: RelSet) -> bool
-        ensures { IsTrue result ↔ Meets self o }
+        ensures members { IsTrue result ↔ Meets self o }
+        ensures below { (self < 2 ^ 64) × (o < 2 ^ 64) }
     {
         self.bits & o.bits != 0
     }
@@ -95,6 +101,7 @@ impl RelSet {
     pub fn next_part(self, p: RelSet) -> Option<RelSet>
         ensures none { IsNone result ↔ IsEmpty p }
         ensures greatest { IfSome result (λ part. IsGreatestBelow self p part) }
+        ensures below { IfSome result (λ part. part < 2 ^ 64) }
     {
         if p.bits == 0 {
             return None;
@@ -125,6 +132,11 @@ fn greatest_part(set: u64, top: u64) -> u64
 /// A law: sets with the same members are equal.
 pub fn same_members()
     ensures { (a b : ℕ) → IsSameSet a b → a ≡ b }
+{}
+
+/// A law: a mask lies below 2^64 where its members lie below 64, and only there.
+pub fn members_below()
+    ensures { (set : ℕ) → set < 2 ^ 64 ↔ ((i : ℕ) → Has set i → i < 64) }
 {}
 
 /// A law of `next_part`: whoever walks with it from a set down to the empty set meets each subset once.

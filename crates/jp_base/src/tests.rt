@@ -1,4 +1,5 @@
-use crate::{Cell, Txt, Value};
+use crate::{Cell, Txt, Value, total_order};
+use std::cmp::Ordering;
 use std::test::Fail;
 
 #[test]
@@ -8,4 +9,13 @@ fn copies_with_ample_memory(rt: HostRuntime) -> Result<(), Fail> {
     let value = Cell::Text("a").to_value(rt.alloc())?;
     assert!(rt; matches!(value.copy(rt.alloc())?, Value::Text(_)));
     Ok(())
+}
+
+#[test]
+fn values_of_two_types_in_order(rt: HostRuntime) {
+    assert_eq!(rt; total_order(Cell::Null, Cell::Num(-1)), Ordering::Less);
+    assert_eq!(rt;
+        total_order(Cell::Text("a"), Cell::Bool(true)),
+        Ordering::Greater
+    );
 }
