@@ -10,8 +10,6 @@ mod named;
 mod place;
 mod read;
 mod tables;
-#[cfg(test)]
-mod tests;
 mod types;
 
 pub use error::CatalogError;

@@ -1,3 +1,4 @@
+mod Answers
 mod Bytes
 mod Gaps
 mod Places

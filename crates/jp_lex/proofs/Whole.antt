@@ -1,16 +1,14 @@
 -- A source of UTF-8 is cut or refused, each source has one answer, and what else follows for a whole source.
-use Rattle.std.proofs.Common.{◌≡◌, ℕ, zero, suc, ◌+◌, ◌<◌, ◌≤◌, List, [], ◌∷◌, ◌++◌, length, drop, Option, Some, None, Result, Ok, Err, MatchResult, IfOk, ◌⊎◌, inl, inr, refl, sym, ap, ◌∙◌, subst, arith, length-append, length-drop}
-use Rattle.std.proofs.lemmas.List.{take_all, append-nil}
+use Rattle.std.proofs.Common.{◌≡◌, ℕ, suc, List, length, Result, Ok, Err, MatchResult, IfOk, ◌⊎◌, inl, inr, refl, sym, ap, ◌∙◌, subst, arith}
+use Rattle.std.proofs.lemmas.List.{take_all}
 use Rattle.std.proofs.lemmas.Str.{utf8_valid_len-IsValidUpTo}
 use Rattle.std.specs.Str.{IsUtf8, IsValidUpTo}
-use Rattle.jp_lex.specs.declared.scan.Scanned.{Scanned}
 use Rattle.jp_lex.specs.declared.token.LexError.{LexError}
 use Rattle.jp_lex.specs.declared.token.LexError.TheVariants as error
-use Rattle.jp_lex.specs.Cutting.{Bytes, IsLongestGap, fault, unmatched, Lexeme, Cut, Refusal, Tokens, Refused, AreSlices, Ascend}
-use Rattle.jp_lex.specs.Scan.{piece_len, scan, LongestAt, TokenAt}
-use Rattle.jp_lex.proofs.Gaps.{longest_none, longest_more}
-use Rattle.jp_lex.proofs.Found.{token_finds, no_token}
-use Rattle.jp_lex.proofs.Once.{Form-some, cut_once, cut_or_refusal, refusal_once}
+use Rattle.jp_lex.specs.Cutting.{Bytes, Lexeme, Cut, Refusal, Tokens, Refused, AreSlices, Ascend}
+use Rattle.jp_lex.proofs.Once.{cut_once, cut_or_refusal, refusal_once}
+use Rattle.jp_lex.specs.Answer.{Answer, cut_from, answer}
+use Rattle.jp_lex.proofs.Answers.{Means, cut_means, answer_means}
 use Rattle.jp_lex.proofs.Places.{cut_slices, cut_ascends}
 
 -- ---- one answer
@@ -33,55 +31,28 @@ tokens_or_refused src ts e (utf8, cut) (inr (n, valid, is)) = valid_not_utf8 src
 
 -- ---- some answer
 
-some_gap : (n : ℕ) (src : Bytes) → length src ≤ n → (m : ℕ) × LongestAt src m
-unfolding piece_len
-some_gap zero src short = (0, longest_none src (go src short))
-  where
-    go : (src : Bytes) → length src ≤ 0 → piece_len src ≡ 0
-    go [] short = refl
-    go (b ∷ src) short = absurd (omega arith)
-some_gap (suc n) src short = go (piece_len src) refl (some_gap n (drop (piece_len src) src))
-  where
-    go : (k : ℕ) → piece_len src ≡ k → (length (drop (piece_len src) src) ≤ n → (m : ℕ) × LongestAt (drop (piece_len src) src) m) → (m : ℕ) × LongestAt src m
-    go zero is more = (0, longest_none src is)
-    go (suc k) is more =
-        let rest = more (omega (arith, length-drop (piece_len src) src, is, short)) in
-        (piece_len src + rest.0, longest_more src rest.0 (omega (arith, is)) rest.1)
-
-abbrev Answer : ℕ → Bytes → Type 0
-Answer p src = ((ts : List Lexeme) × Cut p src ts) ⊎ ((e : LexError) × Refusal p src e)
-
--- the answer behind a gap, if there is one for each shorter source
-answer_behind : (p : ℕ) (src g rest : Bytes) → src ≡ g ++ rest → IsLongestGap g rest → ((q : ℕ) (less : Bytes) → length less < length rest → Answer q less) → Answer p src
-answer_behind p src g [] is long more =
-    let whole : src ≡ g = is ∙ append-nil g in
-    inl ([], subst (λ w. Cut p w []) (sym whole) (Cut.done long))
-answer_behind p src g (b ∷ rest) is long more = go (scan (b ∷ rest)) refl
-  where
-    judged : (s : Scanned) (found : TokenAt (b ∷ rest) s) (bad : Option LexError) → fault (p + length g) s.kind found.0 (length found.1) found.2 ≡ bad → Answer p src
-    judged s (u, content, tail, split, len, size, tok) (Some e) bad =
-        inr (e, Refusal.bad_token g s.kind u content tail (is ∙ ap (λ w. g ++ w) split) (subst (IsLongestGap g) split long) tok bad)
-    judged s (u, content, tail, split, len, size, tok) None ok =
-        let shorter : length tail < length (b ∷ rest) = omega (arith, ap length split, length-append u tail, Form-some tok.form) in
-        behind (more (p + length g + length u) tail shorter)
-      where
-        behind : Answer (p + length g + length u) tail → Answer p src
-        behind (inl (ts, cut)) = inl (record { kind = s.kind; text = u; at = p + length g } ∷ ts, Cut.token g s.kind u content tail (is ∙ ap (λ w. g ++ w) split) (subst (IsLongestGap g) split long) tok ok cut)
-        behind (inr (e, refusal)) = inr (e, Refusal.later g s.kind u content tail (is ∙ ap (λ w. g ++ w) split) (subst (IsLongestGap g) split long) tok ok refusal)
-
-    go : (found : Option Scanned) → scan (b ∷ rest) ≡ found → Answer p src
-    go None none = inr (unmatched (p + length g) b rest, Refusal.no_token g b rest is long (no_token (b ∷ rest) none) refl)
-    go (Some s) some = let found = token_finds (b ∷ rest) s some in judged s found (fault (p + length g) s.kind found.0 (length found.1) found.2) refl
-
-answer : (n p : ℕ) (src : Bytes) → length src < n → Answer p src
-answer zero p src short = absurd (omega arith)
-answer (suc n) p src short =
-    let gap = some_gap (length src) src (omega arith) in
-    let found = gap.1 in
-    answer_behind p src found.0 found.1 found.2 found.4 (λ q less shorter. answer n q less (omega (arith, ap length found.2, length-append found.0 found.1, shorter, short)))
-
 pub some_answer : (src : Bytes) → ((ts : List Lexeme) × Cut 0 src ts) ⊎ ((e : LexError) × Refusal 0 src e)
-some_answer src = answer (suc (length src)) 0 src (omega arith)
+some_answer src = go (cut_from (suc (length src)) 0 src) (cut_means (suc (length src)) 0 src (omega arith))
+  where
+    go : (r : Answer) → Means 0 src r → ((ts : List Lexeme) × Cut 0 src ts) ⊎ ((e : LexError) × Refusal 0 src e)
+    go (Ok ts) cut = inl (ts, cut)
+    go (Err e) refusal = inr (e, refusal)
+
+-- ---- the function's answer
+
+pub answer_of_tokens : (src : Bytes) (ts : List Lexeme) → Tokens src ts → answer src ≡ Ok ts
+answer_of_tokens src ts tokens = go (answer src) (answer_means src)
+  where
+    go : (r : Answer) → MatchResult r (Tokens src) (Refused src) → r ≡ Ok ts
+    go (Ok us) others = ap Ok (tokens_once src us ts others tokens)
+    go (Err e) refused = absurd (tokens_or_refused src ts e tokens refused)
+
+pub answer_of_refusal : (src : Bytes) (e : LexError) → Refused src e → answer src ≡ Err e
+answer_of_refusal src e refused = go (answer src) (answer_means src)
+  where
+    go : (r : Answer) → MatchResult r (Tokens src) (Refused src) → r ≡ Err e
+    go (Ok ts) tokens = absurd (tokens_or_refused src ts e tokens refused)
+    go (Err f) other = ap Err (refused_once src f e other refused)
 
 -- ---- slices
 

@@ -1,3 +1,4 @@
+pub mod Answer
 pub mod Chars
 pub mod Cutting
 pub mod Scan

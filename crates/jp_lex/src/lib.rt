@@ -1,15 +1,14 @@
 //! Cuts the source of a statement into tokens.
 #![tactic(auto)]
 
-ghost use Rattle.std.specs.Prelude.{◌≡◌, ◌⊎◌, ◌≤◌, List, length, IfOk, IfErr, MatchResult};
+ghost use Rattle.std.specs.Prelude.{◌≡◌, ◌⊎◌, ◌≤◌, List, length, Ok, Err, IfOk, IfErr, MatchResult};
+ghost use Rattle.jp_lex.specs.Answer.{answer};
 ghost use Rattle.jp_lex.specs.Cutting.{Bytes, Lexeme, lexemes, Cut, Refusal, Tokens, Refused, AreSlices, Ascend};
 ghost use Rattle.jp_lex.specs.declared.token.LexError.{LexError as Reason};
 
 mod chars;
 mod cut;
 mod scan;
-#[cfg(test)]
-mod tests;
 mod token;
 
 use cut::cut;
@@ -52,4 +51,11 @@ pub fn one_cutting()
     ensures tokens { (src : Bytes) (ts us : List Lexeme) → Tokens src ts → Tokens src us → ts ≡ us }
     ensures refusal { (src : Bytes) (e f : Reason) → Refused src e → Refused src f → e ≡ f }
     ensures apart { (src : Bytes) (ts : List Lexeme) (e : Reason) → Tokens src ts → Refused src e → ⊥ }
+{}
+
+/// A law: `answer` is the cutting as a function. It gives each source its tokens or its refusal, and no other.
+pub fn each_source_is_cut_as_answered()
+    ensures answer { (src : Bytes) → MatchResult (answer src) (Tokens src) (Refused src) }
+    ensures tokens { (src : Bytes) (ts : List Lexeme) → Tokens src ts → answer src ≡ Ok ts }
+    ensures refusal { (src : Bytes) (e : Reason) → Refused src e → answer src ≡ Err e }
 {}

@@ -1,14 +1,14 @@
 -- The readers of atoms are exact, where those of inner expressions and selects are.
 use Rattle.std.proofs.Common.{◌≡◌, ℕ, suc, Bool, true, false, not, ◌&&◌, ◌||◌, List, [], ◌∷◌, ◌++◌, Option, None, Some, refl, sym, ap, ◌∙◌, subst, append_assoc, true≢false}
-use Rattle.jp_parse.specs.declared.tree.Ast.{Ast}
-use Rattle.jp_parse.specs.declared.tree.Ast.TheVariants as ast
-use Rattle.jp_parse.specs.declared.tree.Select.{Select}
-use Rattle.jp_parse.specs.declared.class.Class.{Class}
-use Rattle.jp_parse.specs.declared.class.Class.TheVariants as k
-use Rattle.jp_parse.specs.Seen.{Seen, number_in, place}
-use Rattle.jp_parse.specs.Classes.{class, first, same, is_name}
-use Rattle.jp_parse.specs.Reading.{Reader, ◌>>=◌, ◌>>◌, pure, peek, is, expect, no_meaning, content_in, name, text, number, listed}
-use Rattle.jp_parse.specs.Grammar.{IsAtom, IsExpr, IsSelect, AreExprs, MaybeOperand, AreArms, IsArm, MaybeElse}
+use Rattle.jp_ast.specs.declared.tree.Ast.{Ast}
+use Rattle.jp_ast.specs.declared.tree.Ast.TheVariants as ast
+use Rattle.jp_ast.specs.declared.tree.Select.{Select}
+use Rattle.jp_ast.specs.declared.class.Class.{Class}
+use Rattle.jp_ast.specs.declared.class.Class.TheVariants as k
+use Rattle.jp_ast.specs.Seen.{Seen, number_in, place}
+use Rattle.jp_ast.specs.Classes.{class, first, same, is_name}
+use Rattle.jp_cursor.specs.Reading.{Reader, ◌>>=◌, ◌>>◌, pure, peek, is, expect, no_meaning, content_in, name, text, number, listed}
+use Rattle.jp_ast.specs.Grammar.{IsAtom, IsExpr, IsSelect, AreExprs, MaybeOperand, AreArms, IsArm, MaybeElse}
 use Rattle.jp_parse.specs.Readers.{number_atom, text_atom, word_atom, after_name, name_atom, true_node, false_node, null_node, parens, exists, coalesce, operand_by, operand, arm, arms, otherwise_by, otherwise, cases, atom_by, atom}
 use Rattle.jp_parse.proofs.Exact.{Tokens, Set, nothing, either, Within, Stops, Reads, Inhabited, IsPure, IsThen, Starts, reads_then, reads_by, IsAfter, reads_after, begins_first, reads_pure, within_self, same_language, left_false}
 use Rattle.jp_parse.proofs.Samples.{sample, is_same, same_is, is_sample}

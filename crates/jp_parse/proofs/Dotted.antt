@@ -1,13 +1,13 @@
 -- No expression begins with `name . *` and stops there: what is left goes on with the expression.
 use Rattle.std.proofs.Common.{◌≡◌, ℕ, true, false, List, [], ◌∷◌, ◌++◌, refl, sym, ap, ◌∙◌, append_assoc, append-nil}
-use Rattle.jp_parse.specs.declared.tree.Ast.{Ast}
-use Rattle.jp_parse.specs.declared.class.Class.{Class}
-use Rattle.jp_parse.specs.declared.class.Class.TheVariants as k
-use Rattle.jp_parse.specs.Seen.{Seen, place}
-use Rattle.jp_parse.specs.Classes.{class, first, is_name}
-use Rattle.jp_parse.specs.Nodes.{chain, or_node, and_node, concat_node, product_node, sum_of, is_sign}
-use Rattle.jp_parse.specs.Reading.{is}
-use Rattle.jp_parse.specs.Grammar.{IsAtom, IsSign, IsProduct, MoreFactors, IsSum, MoreTerms, IsCat, MoreParts, IsRange, IsRangeTail, IsCompare, IsCompareTail, IsTest, IsTestTail, IsNot, IsAnd, MoreNots, IsExpr, MoreAnds}
+use Rattle.jp_ast.specs.declared.tree.Ast.{Ast}
+use Rattle.jp_ast.specs.declared.class.Class.{Class}
+use Rattle.jp_ast.specs.declared.class.Class.TheVariants as k
+use Rattle.jp_ast.specs.Seen.{Seen, place}
+use Rattle.jp_ast.specs.Classes.{class, first, is_name}
+use Rattle.jp_ast.specs.Nodes.{chain, or_node, and_node, concat_node, product_node, sum_of, is_sign}
+use Rattle.jp_cursor.specs.Reading.{is}
+use Rattle.jp_ast.specs.Grammar.{IsAtom, IsSign, IsProduct, MoreFactors, IsSum, MoreTerms, IsCat, MoreParts, IsRange, IsRangeTail, IsCompare, IsCompareTail, IsTest, IsTestTail, IsNot, IsAnd, MoreNots, IsExpr, MoreAnds}
 use Rattle.jp_parse.proofs.Exact.{Tokens, Set, Apart, Stops, Starts, IsThen, IsPure, Many, either, apart, within, clash}
 use Rattle.jp_parse.proofs.Steps.{Behind, begins_behind, apart_is, within_left, starts_chained}
 use Rattle.jp_parse.proofs.Sets.{more_atom, more_product, more_sum, more_cat, more_range, more_compare, more_test, more_and, more_expr}

@@ -1,8 +1,8 @@
 -- The last token, as the grammar sees it.
 use Rattle.std.proofs.Common.{◌≡◌, ◌∙◌, ℕ, zero, suc, ◌-◌, ◌<◌, ◌^◌, List, [], ◌∷◌, length, slice_index_or, ap, sym, subst, refl, arith}
 use Rattle.jp_lex.specs.declared.token.Token.{Token}
-use Rattle.jp_parse.specs.Place.{end_of}
-use Rattle.jp_parse.specs.SeenTokens.{seen_token, seen_tokens, Fits, AllFit}
+use Rattle.jp_ast.specs.Place.{end_of}
+use Rattle.jp_ast.specs.SeenTokens.{seen_token, seen_tokens, Fits, AllFit}
 
 end_at : (n : ℕ) (ts : List Token) (d : Token) → length ts ≡ suc n → end_of (seen_tokens ts) ≡ (seen_token (slice_index_or ts n d)).end
 end_at n [] d e = absurd (omega arith)

@@ -1,10 +1,10 @@
 -- When the answer of a reader is exact for a language, and how readers with exact answers are combined.
 use Rattle.std.proofs.Common.{◌≡◌, ℕ, zero, suc, ◌<◌, Bool, true, false, not, ◌&&◌, ◌||◌, if◌then◌else◌, List, [], ◌∷◌, ◌++◌, length, Ok, Err, refl, sym, ap, ◌∙◌, subst, arith, append_assoc, append-nil, length-append, true≢false}
-use Rattle.jp_parse.specs.declared.class.Class.{Class}
-use Rattle.jp_parse.specs.declared.class.Class.TheVariants as k
-use Rattle.jp_parse.specs.Seen.{Seen, place}
-use Rattle.jp_parse.specs.Classes.{class, first}
-use Rattle.jp_parse.specs.Reading.{Outcome, Reader, and_then, ◌>>=◌, pure, peek, here, token_if, many_from, many}
+use Rattle.jp_ast.specs.declared.class.Class.{Class}
+use Rattle.jp_ast.specs.declared.class.Class.TheVariants as k
+use Rattle.jp_ast.specs.Seen.{Seen, place}
+use Rattle.jp_ast.specs.Classes.{class, first}
+use Rattle.jp_cursor.specs.Reading.{Outcome, Reader, and_then, ◌>>=◌, pure, peek, here, token_if, many_from, many}
 
 abbrev pub Tokens : Type 0
 Tokens = List Seen

@@ -1,16 +1,16 @@
 -- The readers of expressions are exact, where that of atoms is: from a sign up to OR.
 use Rattle.std.proofs.Common.{◌≡◌, ℕ, suc, Bool, true, false, List, [], ◌∷◌, ◌++◌, refl, sym, ap, ◌∙◌, subst, true≢false}
-use Rattle.jp_parse.specs.declared.tree.Ast.{Ast}
-use Rattle.jp_parse.specs.declared.tree.Ast.TheVariants as ast
-use Rattle.jp_parse.specs.declared.tree.Select.{Select}
-use Rattle.jp_parse.specs.declared.class.Class.{Class}
-use Rattle.jp_parse.specs.declared.class.Class.TheVariants as k
-use Rattle.jp_parse.specs.Seen.{Seen, place}
-use Rattle.jp_parse.specs.Classes.{class, first, same}
-use Rattle.jp_parse.specs.Nodes.{chain, or_node, and_node, concat_node, product_node, sum_of, negated_at, is_sign, is_comparison, comparison, is_test, test_word}
-use Rattle.jp_parse.specs.Reading.{Reader, ◌>>=◌, ◌>>◌, pure, peek, is, expect, no_meaning, eat, many, listed}
-use Rattle.jp_parse.specs.Grammar.{MaybeNot, IsAtom, IsSign, IsProduct, IsSum, IsCat, IsRange, IsRangeTail, IsMembers, AreExprs, IsSelect, IsCompare, IsCompareTail, IsTest, IsTestTail, IsNot, IsAnd, IsExpr}
-use Rattle.jp_parse.specs.Readers.{minus_in, sign_token, comparison_in, comparison_token, test_in, test_token, atom, signed, sign, product, term, sum, cat, between, members_by, members, among, after_not_by, after_not, range_by, range_tail, range, compared, compare_tail, compare, tested, test_by, test_tail, test, negated, not_by, not_level, and_level, expr_of}
+use Rattle.jp_ast.specs.declared.tree.Ast.{Ast}
+use Rattle.jp_ast.specs.declared.tree.Ast.TheVariants as ast
+use Rattle.jp_ast.specs.declared.tree.Select.{Select}
+use Rattle.jp_ast.specs.declared.class.Class.{Class}
+use Rattle.jp_ast.specs.declared.class.Class.TheVariants as k
+use Rattle.jp_ast.specs.Seen.{Seen, place}
+use Rattle.jp_ast.specs.Classes.{class, first, same}
+use Rattle.jp_ast.specs.Nodes.{chain, or_node, and_node, concat_node, product_node, sum_of, negated_at, is_sign, is_comparison, comparison, is_test, test_word}
+use Rattle.jp_cursor.specs.Reading.{Reader, ◌>>=◌, ◌>>◌, pure, peek, is, expect, no_meaning, eat, many, listed, minus_in, sign_token, comparison_in, comparison_token, test_in, test_token}
+use Rattle.jp_ast.specs.Grammar.{MaybeNot, IsAtom, IsSign, IsProduct, IsSum, IsCat, IsRange, IsRangeTail, IsMembers, AreExprs, IsSelect, IsCompare, IsCompareTail, IsTest, IsTestTail, IsNot, IsAnd, IsExpr}
+use Rattle.jp_parse.specs.Readers.{atom, signed, sign, product, term, sum, cat, between, members_by, members, among, after_not_by, after_not, range_by, range_tail, range, compared, compare_tail, compare, tested, test_by, test_tail, test_level, negated, not_by, not_level, and_level, expr_of}
 use Rattle.jp_parse.proofs.Exact.{Tokens, Set, nothing, either, Apart, Within, Stops, apart, Reads, Inhabited, within, within_self, IsPure, IsThen, Starts, reads_then, reads_by, reads_if, IsEither, IsAfter, reads_after, Many, Begins, begins_first, begins_some, reads_pure, same_language}
 use Rattle.jp_parse.proofs.Samples.{sample, sampled, is_same}
 use Rattle.jp_parse.proofs.Steps.{reads_last, some_last, last_is, last, reads_closed, some_closed, within_left, fewer, wider, Behind, behind_class, behind, some_behind, some_then, some_after, MaybeWord, some_maybe, reads_eat, reads_enter, reads_expect, Word, some_pure, Shifts, shift_pure, shift_after, shift_then, shift_behind, shift_chained, long_after, long_then, Placed, reads_placed, within_nothing, starts_begun, reads_pure_in, Chained, reads_chained, Listed, LevelAt, reads_level, chain_of, of_chain, word_cut, word}
@@ -522,10 +522,10 @@ into_test u v h = IsTest.test h.left h.right h.value h.cut h.front h.back
 pub of_test : (u : Tokens) (v : Ast) → IsTest u v → Placed (λ p. IsThen IsCompare (IsTestTail p)) u v
 of_test u v (IsTest.test x w a cut is tail) = record { left = x; right = w; value = a; cut = cut; front = is; back = tail }
 
-pub reads_test : (E : Reader Ast) (Q : Reader Select) (n : ℕ) → Reads n IsCompare more_compare (compare E Q) → Reads n IsTest more_test (test E Q)
-unfolding test test_tail
+pub reads_test : (E : Reader Ast) (Q : Reader Select) (n : ℕ) → Reads n IsCompare more_compare (compare E Q) → Reads n IsTest more_test (test_level E Q)
+unfolding test_level test_tail
 reads_test E Q n law =
-    same_language (Placed (λ p. IsThen IsCompare (IsTestTail p))) IsTest more_test more_test n (test E Q) into_test of_test (within_self more_test)
+    same_language (Placed (λ p. IsThen IsCompare (IsTestTail p))) IsTest more_test more_test n (test_level E Q) into_test of_test (within_self more_test)
     (reads_placed (λ p. IsThen IsCompare (IsTestTail p)) more_test n (λ at. compare E Q >>= (λ a. test_tail at a)) (λ p. long_then IsCompare (IsTestTail p) (λ u a is. begins_some begins_sign IsCompare u a begins-IsCompare is)) (shift_then IsCompare IsTestTail shift_test)
     (λ p. reads_then IsCompare (IsTestTail p) more_compare more_test n (compare E Q) (λ a. test_tail p a) (starts_test p) (λ a. ([], a, IsTestTail.no_test refl refl)) law
     (λ a. reads_by (IsTestTail p a) (TestBy p a) more_test n (test_by p a) (into_test_tail p a) (test_shape p a) (each p a))))
@@ -556,14 +556,14 @@ not_shape u s v (IsNot.affirmed is) stop = not_affirmed (first (u ++ s)) u v (be
 not_shape u s v (IsNot.negated t w a cut good inside value) stop =
     subst (λ c. NotBy c u v) (sym (ap (λ x. first (x ++ s)) cut ∙ good)) (behind k.Not (IsThen IsTest (λ b. IsPure (ast.Not b (place u)))) u v t w cut good (last IsTest (λ b. ast.Not b (place u)) w a v inside (value ∙ ap (λ p. ast.Not a p) (sym (ap place cut)))))
 
-reads_negated : (E : Reader Ast) (Q : Reader Select) (n : ℕ) → Reads n IsTest more_test (test E Q) → Reads n (Placed NegatedAt) more_test (negated E Q)
+reads_negated : (E : Reader Ast) (Q : Reader Select) (n : ℕ) → Reads n IsTest more_test (test_level E Q) → Reads n (Placed NegatedAt) more_test (negated E Q)
 unfolding negated
 reads_negated E Q n law =
-    reads_placed NegatedAt more_test n (λ at. expect k.Not >> (test E Q >>= (λ a. pure (ast.Not a at)))) (λ p. long_after (is k.Not) no_meaning (λ _. IsThen IsTest (λ a. IsPure (ast.Not a p))))
+    reads_placed NegatedAt more_test n (λ at. expect k.Not >> (test_level E Q >>= (λ a. pure (ast.Not a at)))) (λ p. long_after (is k.Not) no_meaning (λ _. IsThen IsTest (λ a. IsPure (ast.Not a p))))
     (shift_behind k.Not (λ p. IsThen IsTest (λ a. IsPure (ast.Not a p))) (shift_then IsTest (λ p a. IsPure (ast.Not a p)) (λ a. shift_pure (λ p. ast.Not a p))))
-    (λ p. reads_expect k.Not (IsThen IsTest (λ a. IsPure (ast.Not a p))) more_test n (test E Q >>= (λ a. pure (ast.Not a p))) (some_last IsTest (λ a. ast.Not a p) some-IsTest) (reads_last IsTest more_test more_test n (test E Q) (λ a. ast.Not a p) (within_self more_test) law))
+    (λ p. reads_expect k.Not (IsThen IsTest (λ a. IsPure (ast.Not a p))) more_test n (test_level E Q >>= (λ a. pure (ast.Not a p))) (some_last IsTest (λ a. ast.Not a p) some-IsTest) (reads_last IsTest more_test more_test n (test_level E Q) (λ a. ast.Not a p) (within_self more_test) law))
 
-pub reads_not : (E : Reader Ast) (Q : Reader Select) (n : ℕ) → Reads n IsTest more_test (test E Q) → Reads n IsNot more_test (not_level E Q)
+pub reads_not : (E : Reader Ast) (Q : Reader Select) (n : ℕ) → Reads n IsTest more_test (test_level E Q) → Reads n IsNot more_test (not_level E Q)
 unfolding not_level
 reads_not E Q n law = reads_by IsNot NotBy more_test n (not_by E Q) into_not_level not_shape each
   where

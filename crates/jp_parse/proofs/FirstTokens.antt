@@ -1,18 +1,17 @@
 -- The tokens that begin the lists of each rule: proved for each, lowest first.
 use Rattle.std.proofs.Common.{◌≡◌, Bool, true, false, not, ◌&&◌, [], ◌∷◌, ◌++◌, refl, sym, ap, ◌∙◌, true≢false}
-use Rattle.jp_parse.specs.declared.tree.Ast.{Ast}
-use Rattle.jp_parse.specs.declared.tree.FromItem.{FromItem}
-use Rattle.jp_parse.specs.declared.tree.Select.{Select}
-use Rattle.jp_parse.specs.declared.tree.Target.{Target}
-use Rattle.jp_parse.specs.declared.tree.JoinWord.{JoinWord}
-use Rattle.jp_parse.specs.declared.class.Class.{Class}
-use Rattle.jp_parse.specs.declared.class.Class.TheVariants as k
-use Rattle.jp_parse.specs.Seen.{Seen}
-use Rattle.jp_parse.specs.Classes.{class, first, same, is_name}
-use Rattle.jp_parse.specs.Nodes.{is_sign, Joined}
-use Rattle.jp_parse.specs.Grammar.{MaybeSide, IsAtom, IsArm, IsSign, IsProduct, IsSum, IsCat, IsRange, IsCompare, IsTest, IsNot, IsAnd, IsExpr, IsPrimary, IsJoin, IsItem, IsTarget, IsSelect}
-use Rattle.jp_parse.specs.Reading.{is}
-use Rattle.jp_parse.specs.Readers.{begins_join}
+use Rattle.jp_ast.specs.declared.tree.Ast.{Ast}
+use Rattle.jp_ast.specs.declared.tree.FromItem.{FromItem}
+use Rattle.jp_ast.specs.declared.tree.Select.{Select}
+use Rattle.jp_ast.specs.declared.tree.Target.{Target}
+use Rattle.jp_ast.specs.declared.tree.JoinWord.{JoinWord}
+use Rattle.jp_ast.specs.declared.class.Class.{Class}
+use Rattle.jp_ast.specs.declared.class.Class.TheVariants as k
+use Rattle.jp_ast.specs.Seen.{Seen}
+use Rattle.jp_ast.specs.Classes.{class, first, same, is_name}
+use Rattle.jp_ast.specs.Nodes.{is_sign, Joined}
+use Rattle.jp_ast.specs.Grammar.{MaybeSide, IsAtom, IsArm, IsSign, IsProduct, IsSum, IsCat, IsRange, IsCompare, IsTest, IsNot, IsAnd, IsExpr, IsPrimary, IsJoin, IsItem, IsTarget, IsSelect}
+use Rattle.jp_cursor.specs.Reading.{is, begins_join}
 use Rattle.jp_parse.proofs.Exact.{Tokens, Set, Within, Begins, begins_first}
 use Rattle.jp_parse.proofs.Samples.{same_is}
 use Rattle.jp_parse.proofs.Sets.{begins_atom, begins_sign, begins_expr, begins_primary, begins_target}

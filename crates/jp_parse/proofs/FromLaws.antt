@@ -1,19 +1,19 @@
 -- The readers of FROM items are exact, where those of inner expressions, selects and items are.
 use Rattle.std.proofs.Common.{◌≡◌, ℕ, suc, Bool, true, false, if◌then◌else◌, List, [], ◌∷◌, ◌++◌, Option, None, Some, refl, sym, ap, ◌∙◌, subst, append_assoc, true≢false}
-use Rattle.jp_parse.specs.declared.tree.Ast.{Ast}
-use Rattle.jp_parse.specs.declared.tree.FromItem.{FromItem}
-use Rattle.jp_parse.specs.declared.tree.FromItem.TheVariants as from
-use Rattle.jp_parse.specs.declared.tree.Select.{Select}
-use Rattle.jp_parse.specs.declared.tree.JoinWord.{JoinWord}
-use Rattle.jp_parse.specs.declared.tree.JoinWord.TheVariants as join
-use Rattle.jp_parse.specs.declared.class.Class.{Class}
-use Rattle.jp_parse.specs.declared.class.Class.TheVariants as k
-use Rattle.jp_parse.specs.Seen.{Seen, place}
-use Rattle.jp_parse.specs.Classes.{class, first, same, is_name}
-use Rattle.jp_parse.specs.Nodes.{Joined, join_chain}
-use Rattle.jp_parse.specs.Reading.{Reader, ◌>>=◌, ◌>>◌, pure, peek, is, expect, no_meaning, content_in, name, eat, many}
-use Rattle.jp_parse.specs.Grammar.{MaybeAlias, MaybeOuter, MaybeSide, IsExpr, IsSelect, IsPrimary, IsJoin, IsItem}
-use Rattle.jp_parse.specs.Readers.{alias_by, alias, table, sub, grouped, inside_by, in_parens, primary_by, primary, outer_side, inner_side, side_by, side, crossed, sided, join_by, join_of, begins_join, item_of}
+use Rattle.jp_ast.specs.declared.tree.Ast.{Ast}
+use Rattle.jp_ast.specs.declared.tree.FromItem.{FromItem}
+use Rattle.jp_ast.specs.declared.tree.FromItem.TheVariants as from
+use Rattle.jp_ast.specs.declared.tree.Select.{Select}
+use Rattle.jp_ast.specs.declared.tree.JoinWord.{JoinWord}
+use Rattle.jp_ast.specs.declared.tree.JoinWord.TheVariants as join
+use Rattle.jp_ast.specs.declared.class.Class.{Class}
+use Rattle.jp_ast.specs.declared.class.Class.TheVariants as k
+use Rattle.jp_ast.specs.Seen.{Seen, place}
+use Rattle.jp_ast.specs.Classes.{class, first, same, is_name}
+use Rattle.jp_ast.specs.Nodes.{Joined, join_chain}
+use Rattle.jp_cursor.specs.Reading.{Reader, ◌>>=◌, ◌>>◌, pure, peek, is, expect, no_meaning, content_in, name, eat, many, begins_join}
+use Rattle.jp_ast.specs.Grammar.{MaybeAlias, MaybeOuter, MaybeSide, IsExpr, IsSelect, IsPrimary, IsJoin, IsItem}
+use Rattle.jp_parse.specs.Readers.{alias_by, alias, table, sub, grouped, inside_by, in_parens, primary_by, primary, outer_side, inner_side, side_by, side, crossed, sided, join_by, join_of, item_of}
 use Rattle.jp_parse.proofs.Exact.{Tokens, Set, nothing, either, Apart, Within, Stops, apart, Reads, Inhabited, within, within_self, IsPure, IsThen, Starts, reads_then, reads_by, IsEither, Many, begins_first, begins_some, reads_pure, same_language}
 use Rattle.jp_parse.proofs.Samples.{is_same}
 use Rattle.jp_parse.proofs.Steps.{reads_last, some_last, last_is, last, reads_closed, some_closed, fewer, wider, Behind, behind, some_behind, starts_behind, MaybeWord, some_maybe, reads_eat, reads_enter, reads_expect, Word, reads_word, Named, some_named, reads_named, some_pure, Shifts, shift_pure, shift_after, shift_then, shift_behind, shift_chained, long_after, long_then, Placed, reads_placed, within_nothing, reads_pure_in, Chained, reads_chained, chain_of, of_chain, word_cut, word}

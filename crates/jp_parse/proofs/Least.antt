@@ -1,14 +1,14 @@
 -- Some list of each rule.
 use Rattle.std.proofs.Common.{false, [], ◌∷◌, ◌++◌, None, refl, sym, ap, append-nil}
-use Rattle.jp_parse.specs.declared.tree.JoinWord.TheVariants as join
-use Rattle.jp_parse.specs.declared.tree.Ast.TheVariants as ast
-use Rattle.jp_parse.specs.declared.tree.FromItem.TheVariants as from
-use Rattle.jp_parse.specs.declared.tree.Target.TheVariants as target
-use Rattle.jp_parse.specs.declared.class.Class.TheVariants as k
-use Rattle.jp_parse.specs.Seen.{number_in}
-use Rattle.jp_parse.specs.Classes.{is_name}
-use Rattle.jp_parse.specs.Nodes.{select_of}
-use Rattle.jp_parse.specs.Grammar.{MaybeAlias, MaybeDistinct, MaybeDirection, MaybeNulls, IsAtom, IsSign, IsProduct, MoreFactors, IsSum, MoreTerms, IsCat, MoreParts, IsRange, IsRangeTail, IsCompare, IsCompareTail, IsTest, IsTestTail, IsNot, IsAnd, MoreNots, IsExpr, MoreAnds, IsArm, AreArms, MoreArms, IsPrimary, IsJoin, IsItem, MoreJoins, AreItems, MoreItems, IsTarget, AreTargets, MoreTargets, MaybeWhere, IsSelect, IsOrder}
+use Rattle.jp_ast.specs.declared.tree.JoinWord.TheVariants as join
+use Rattle.jp_ast.specs.declared.tree.Ast.TheVariants as ast
+use Rattle.jp_ast.specs.declared.tree.FromItem.TheVariants as from
+use Rattle.jp_ast.specs.declared.tree.Target.TheVariants as target
+use Rattle.jp_ast.specs.declared.class.Class.TheVariants as k
+use Rattle.jp_ast.specs.Seen.{number_in}
+use Rattle.jp_ast.specs.Classes.{is_name}
+use Rattle.jp_ast.specs.Nodes.{select_of}
+use Rattle.jp_ast.specs.Grammar.{MaybeAlias, MaybeDistinct, MaybeDirection, MaybeNulls, IsAtom, IsSign, IsProduct, MoreFactors, IsSum, MoreTerms, IsCat, MoreParts, IsRange, IsRangeTail, IsCompare, IsCompareTail, IsTest, IsTestTail, IsNot, IsAnd, MoreNots, IsExpr, MoreAnds, IsArm, AreArms, MoreArms, IsPrimary, IsJoin, IsItem, MoreJoins, AreItems, MoreItems, IsTarget, AreTargets, MoreTargets, MaybeWhere, IsSelect, IsOrder}
 use Rattle.jp_parse.proofs.Exact.{Inhabited}
 use Rattle.jp_parse.proofs.Samples.{sample, sampled}
 

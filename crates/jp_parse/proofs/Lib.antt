@@ -1,10 +1,4 @@
-pub mod Answers
-pub mod CutLemmas
-pub mod Fronts
-pub mod Prefixes
-pub mod TokenLemmas
 pub mod AtomLaws
-pub mod Contents
 pub mod Dotted
 pub mod Exact
 pub mod Expressions
@@ -19,11 +13,5 @@ pub mod Statements
 pub mod Steps
 pub mod Top
 pub mod Uses
-pub mod Utf8
-pub mod Behind
-pub mod Digits
 pub mod Endings
-pub mod FirstFacts
-pub mod Taken
-pub mod Turns
-pub mod Fitting
+pub mod Answering

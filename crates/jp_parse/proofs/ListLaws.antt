@@ -1,14 +1,14 @@
 -- The lists of the grammar as lists of members.
 use Rattle.std.proofs.Common.{◌≡◌, Bool, List, [], ◌∷◌, ◌++◌, refl, sym, ap, ◌∙◌, append-nil}
-use Rattle.jp_parse.specs.declared.tree.Ast.{Ast}
-use Rattle.jp_parse.specs.declared.tree.OrderAst.{OrderAst}
-use Rattle.jp_parse.specs.declared.tree.FromItem.{FromItem}
-use Rattle.jp_parse.specs.declared.tree.Target.{Target}
-use Rattle.jp_parse.specs.declared.class.Class.TheVariants as k
-use Rattle.jp_parse.specs.Classes.{class}
-use Rattle.jp_parse.specs.Nodes.{is_sign, Joined}
-use Rattle.jp_parse.specs.Readers.{minus_in}
-use Rattle.jp_parse.specs.Grammar.{IsSign, MoreFactors, IsProduct, MoreTerms, IsSum, MoreParts, IsNot, MoreNots, IsAnd, MoreAnds, IsExpr, MoreExprs, IsArm, MoreArms, IsItem, MoreItems, IsJoin, MoreJoins, IsTarget, MoreTargets, IsOrder, MoreOrders}
+use Rattle.jp_ast.specs.declared.tree.Ast.{Ast}
+use Rattle.jp_ast.specs.declared.tree.OrderAst.{OrderAst}
+use Rattle.jp_ast.specs.declared.tree.FromItem.{FromItem}
+use Rattle.jp_ast.specs.declared.tree.Target.{Target}
+use Rattle.jp_ast.specs.declared.class.Class.TheVariants as k
+use Rattle.jp_cursor.specs.Reading.{minus_in}
+use Rattle.jp_ast.specs.Classes.{class}
+use Rattle.jp_ast.specs.Nodes.{is_sign, Joined}
+use Rattle.jp_ast.specs.Grammar.{IsSign, MoreFactors, IsProduct, MoreTerms, IsSum, MoreParts, IsNot, MoreNots, IsAnd, MoreAnds, IsExpr, MoreExprs, IsArm, MoreArms, IsItem, MoreItems, IsJoin, MoreJoins, IsTarget, MoreTargets, IsOrder, MoreOrders}
 use Rattle.jp_parse.proofs.Exact.{Tokens, Many, IsThen, IsPure, IsAfter}
 use Rattle.jp_parse.proofs.Samples.{is_same}
 use Rattle.jp_parse.proofs.Steps.{Behind, behind}

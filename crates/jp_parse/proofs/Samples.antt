@@ -3,12 +3,12 @@ use Rattle.std.proofs.Common.{◌≡◌, true, rules, refl, []}
 use Rattle.std.specs.Prelude.{codes}
 use denote.Enum.Bare.{same_true, true_same}
 use Rattle.jp_lex.specs.declared.token.TokenKind.TheVariants.{Word, Number, Text, Symbol}
-use Rattle.jp_parse.specs.contracts.class.Class.{the_type}
-use Rattle.jp_parse.specs.declared.class.Class.{Class}
-use Rattle.jp_parse.specs.declared.class.Class.TheVariants as k
-use Rattle.jp_parse.specs.Seen.{Seen}
-use Rattle.jp_parse.specs.Classes.{class, same, words, symbols}
-use Rattle.jp_parse.specs.Reading.{is}
+use Rattle.jp_ast.specs.contracts.class.Class.{the_type}
+use Rattle.jp_ast.specs.declared.class.Class.{Class}
+use Rattle.jp_ast.specs.declared.class.Class.TheVariants as k
+use Rattle.jp_ast.specs.Seen.{Seen}
+use Rattle.jp_ast.specs.Classes.{class, same, words, symbols}
+use Rattle.jp_cursor.specs.Reading.{is}
 
 -- ---- a token of each class
 

@@ -1,18 +1,18 @@
 -- The readers of targets and selects are exact, where those of inner expressions and items are.
 use Rattle.std.proofs.Common.{◌≡◌, ℕ, suc, ◌<◌, Bool, true, false, ◌&&◌, if◌then◌else◌, List, [], ◌∷◌, ◌++◌, length, Option, None, Some, Ok, Err, refl, sym, ap, ◌∙◌, subst, arith, append_assoc, append-nil, true≢false}
-use Rattle.jp_parse.specs.declared.tree.Ast.{Ast}
-use Rattle.jp_parse.specs.declared.tree.Ast.TheVariants as ast
-use Rattle.jp_parse.specs.declared.tree.FromItem.{FromItem}
-use Rattle.jp_parse.specs.declared.tree.Select.{Select}
-use Rattle.jp_parse.specs.declared.tree.Target.{Target}
-use Rattle.jp_parse.specs.declared.tree.Target.TheVariants as target
-use Rattle.jp_parse.specs.declared.class.Class.{Class}
-use Rattle.jp_parse.specs.declared.class.Class.TheVariants as k
-use Rattle.jp_parse.specs.Seen.{Seen, place}
-use Rattle.jp_parse.specs.Classes.{class, first, same, is_name}
-use Rattle.jp_parse.specs.Nodes.{select_of}
-use Rattle.jp_parse.specs.Reading.{Reader, Outcome, ◌>>=◌, ◌>>◌, pure, peek, is, expect, no_meaning, content_in, name, eat, begins_all_of, listed}
-use Rattle.jp_parse.specs.Grammar.{MaybeAlias, MaybeDistinct, IsAtom, IsExpr, IsItem, AreItems, IsTarget, AreTargets, MaybeWhere, IsSelect}
+use Rattle.jp_ast.specs.declared.tree.Ast.{Ast}
+use Rattle.jp_ast.specs.declared.tree.Ast.TheVariants as ast
+use Rattle.jp_ast.specs.declared.tree.FromItem.{FromItem}
+use Rattle.jp_ast.specs.declared.tree.Select.{Select}
+use Rattle.jp_ast.specs.declared.tree.Target.{Target}
+use Rattle.jp_ast.specs.declared.tree.Target.TheVariants as target
+use Rattle.jp_ast.specs.declared.class.Class.{Class}
+use Rattle.jp_ast.specs.declared.class.Class.TheVariants as k
+use Rattle.jp_ast.specs.Seen.{Seen, place}
+use Rattle.jp_ast.specs.Classes.{class, first, same, is_name}
+use Rattle.jp_ast.specs.Nodes.{select_of}
+use Rattle.jp_cursor.specs.Reading.{Reader, Outcome, ◌>>=◌, ◌>>◌, pure, peek, is, expect, no_meaning, content_in, name, eat, begins_all_of, listed}
+use Rattle.jp_ast.specs.Grammar.{MaybeAlias, MaybeDistinct, IsAtom, IsExpr, IsItem, AreItems, IsTarget, AreTargets, MaybeWhere, IsSelect}
 use Rattle.jp_parse.specs.Readers.{alias, all, all_of, one, target_by, target_of, where_by, condition, select_from}
 use Rattle.jp_parse.proofs.Exact.{Tokens, Set, nothing, either, Apart, Within, Stops, Alike, Exact, Reads, Inhabited, clash, within, within_self, IsPure, IsThen, Starts, reads_then, reads_by, Begins, begins_first, same_language}
 use Rattle.jp_parse.proofs.Samples.{sample, sampled, is_same, same_is}

@@ -1,7 +1,7 @@
 -- The tokens that begin the lists of each rule, and those that may go on with one.
 use Rattle.std.proofs.Common.{true, false}
-use Rattle.jp_parse.specs.declared.class.Class.TheVariants as k
-use Rattle.jp_parse.specs.Classes.{is_name}
+use Rattle.jp_ast.specs.declared.class.Class.TheVariants as k
+use Rattle.jp_ast.specs.Classes.{is_name}
 use Rattle.jp_parse.proofs.Exact.{Set}
 
 -- ---- what begins

@@ -1,15 +1,15 @@
 -- The readers of ORDER BY and of whole statements are exact, where those of expressions and selects are.
 use Rattle.std.proofs.Common.{◌≡◌, ℕ, zero, suc, Bool, true, false, List, [], ◌∷◌, ◌++◌, refl, sym, ap, ◌∙◌, subst, arith, true≢false}
-use Rattle.jp_parse.specs.declared.tree.Ast.{Ast}
-use Rattle.jp_parse.specs.declared.tree.OrderAst.{OrderAst}
-use Rattle.jp_parse.specs.declared.tree.Stmt.{Stmt}
-use Rattle.jp_parse.specs.declared.tree.Select.{Select}
-use Rattle.jp_parse.specs.declared.class.Class.{Class}
-use Rattle.jp_parse.specs.declared.class.Class.TheVariants as k
-use Rattle.jp_parse.specs.Seen.{Seen}
-use Rattle.jp_parse.specs.Classes.{class, first, same}
-use Rattle.jp_parse.specs.Reading.{Reader, ◌>>=◌, ◌>>◌, pure, peek, is, expect, eat, listed}
-use Rattle.jp_parse.specs.Grammar.{MaybeDirection, MaybeNulls, MaybeEnd, IsExpr, IsSelect, IsItem, IsOrder, MaybeOrder, Derives}
+use Rattle.jp_ast.specs.declared.tree.Ast.{Ast}
+use Rattle.jp_ast.specs.declared.tree.OrderAst.{OrderAst}
+use Rattle.jp_ast.specs.declared.tree.Stmt.{Stmt}
+use Rattle.jp_ast.specs.declared.tree.Select.{Select}
+use Rattle.jp_ast.specs.declared.class.Class.{Class}
+use Rattle.jp_ast.specs.declared.class.Class.TheVariants as k
+use Rattle.jp_ast.specs.Seen.{Seen}
+use Rattle.jp_ast.specs.Classes.{class, first, same}
+use Rattle.jp_cursor.specs.Reading.{Reader, ◌>>=◌, ◌>>◌, pure, peek, is, expect, eat, listed}
+use Rattle.jp_ast.specs.Grammar.{MaybeDirection, MaybeNulls, MaybeEnd, IsExpr, IsSelect, IsItem, IsOrder, MaybeOrder, Derives}
 use Rattle.jp_parse.specs.Readers.{direction_by, direction, nulls_word, nulls_by, nulls, order, orders_by, orders, statement_of, expr, item, select, statement}
 use Rattle.jp_parse.proofs.Exact.{Tokens, Set, nothing, either, Within, Stops, Reads, Inhabited, within, within_self, IsPure, IsThen, Starts, reads_then, reads_by, same_language}
 use Rattle.jp_parse.proofs.Samples.{is_same}

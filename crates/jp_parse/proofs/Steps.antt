@@ -1,13 +1,13 @@
 -- The readers' steps that take a token, with their languages.
 use Rattle.std.proofs.Common.{◌≡◌, ℕ, suc, ◌<◌, Bool, true, false, if◌then◌else◌, List, [], ◌∷◌, ◌++◌, length, Ok, refl, sym, ap, ◌∙◌, subst, arith, append_assoc, append-nil, length-append}
 use Rattle.std.specs.Prelude.{drop, not, ◌&&◌, ◌||◌}
-use Rattle.jp_parse.specs.declared.tree.Ast.{Ast}
-use Rattle.jp_parse.specs.declared.class.Class.{Class}
-use Rattle.jp_parse.specs.declared.class.Class.TheVariants as k
-use Rattle.jp_parse.specs.Seen.{Seen, place}
-use Rattle.jp_parse.specs.Classes.{class, first, same, is_name}
-use Rattle.jp_parse.specs.Reading.{Reader, ◌>>=◌, ◌>>◌, pure, here, is, expect, no_meaning, content_in, name, eat, many, listed}
-use Rattle.jp_parse.specs.Nodes.{chain}
+use Rattle.jp_ast.specs.declared.tree.Ast.{Ast}
+use Rattle.jp_ast.specs.declared.class.Class.{Class}
+use Rattle.jp_ast.specs.declared.class.Class.TheVariants as k
+use Rattle.jp_ast.specs.Seen.{Seen, place}
+use Rattle.jp_ast.specs.Classes.{class, first, same, is_name}
+use Rattle.jp_cursor.specs.Reading.{Reader, ◌>>=◌, ◌>>◌, pure, here, is, expect, no_meaning, content_in, name, eat, many, listed}
+use Rattle.jp_ast.specs.Nodes.{chain}
 use Rattle.jp_parse.specs.Readers.{level}
 use Rattle.jp_parse.proofs.Exact.{Tokens, Set, nothing, either, Apart, Within, Stops, Alike, Exact, Reads, Inhabited, clash, within, alike_first, reads_pure, IsPure, IsThen, Starts, reads_then, IsAfter, reads_after, reads_here, Many, Begins, begins_first, reads_many, same_language, apart}
 use Rattle.jp_parse.proofs.Samples.{sample, sampled, is_same, same_is, is_sample}

@@ -1,14 +1,14 @@
 -- Whole statements: what the reader answers, the one statement and the one place.
 use Rattle.std.proofs.Common.{◌≡◌, ℕ, suc, [], ◌∷◌, ◌++◌, length, Result, Ok, Err, ◌⊎◌, inl, inr, refl, sym, ap, ◌∙◌, subst, arith, append_assoc, append-nil, length-append}
-use Rattle.jp_parse.specs.declared.tree.Stmt.{Stmt}
-use Rattle.jp_parse.specs.declared.errors.ParseError.{ParseError}
-use Rattle.jp_parse.specs.declared.errors.ParseError.TheVariants.{Syntax, TooDeep, Memory}
-use Rattle.jp_parse.specs.Seen.{Seen}
-use Rattle.jp_parse.specs.Grammar.{Derives}
-use Rattle.jp_parse.specs.Nesting.{NestsWithin, PassesAt}
-use Rattle.jp_parse.specs.Place.{Viable, Stuck}
-use Rattle.jp_parse.specs.Answer.{ReadAs, ParsedAs, Says}
-use Rattle.jp_parse.specs.Reading.{Outcome}
+use Rattle.jp_ast.specs.declared.tree.Stmt.{Stmt}
+use Rattle.jp_ast.specs.declared.errors.ParseError.{ParseError}
+use Rattle.jp_ast.specs.declared.errors.ParseError.TheVariants.{Syntax, TooDeep, Memory}
+use Rattle.jp_ast.specs.Seen.{Seen}
+use Rattle.jp_ast.specs.Grammar.{Derives}
+use Rattle.jp_ast.specs.Nesting.{NestsWithin, PassesAt}
+use Rattle.jp_ast.specs.Place.{Viable, Stuck}
+use Rattle.jp_ast.specs.Answer.{ReadAs, ParsedAs, Says}
+use Rattle.jp_cursor.specs.Reading.{Outcome}
 use Rattle.jp_parse.specs.Readers.{statement, verdict, parsed}
 use Rattle.jp_parse.proofs.Exact.{Tokens, Exact}
 use Rattle.jp_parse.proofs.Sets.{more_statement}

@@ -1,10 +1,10 @@
 -- What the code cites: the first pass over the tokens, and the answer of the readers as the answer to the tokens.
 use Rattle.std.proofs.Common.{◌≡◌, ℕ, ◌<◌, ◌≤◌, [], ◌∷◌, ◌++◌, fold, Ok, Err, ◌⊎◌, inl, inr, refl, sym, ap, ◌∙◌, subst, arith}
-use Rattle.jp_parse.specs.declared.tree.Stmt.{Stmt}
-use Rattle.jp_parse.specs.declared.errors.ParseError.TheVariants.{Syntax}
-use Rattle.jp_parse.specs.Seen.{Seen}
-use Rattle.jp_parse.specs.Nesting.{nested, nesting, max_nesting, NestsWithin, PassesAt}
-use Rattle.jp_parse.specs.Answer.{ReadAs, ParsedAs}
+use Rattle.jp_ast.specs.declared.tree.Stmt.{Stmt}
+use Rattle.jp_ast.specs.declared.errors.ParseError.TheVariants.{Syntax}
+use Rattle.jp_ast.specs.Seen.{Seen}
+use Rattle.jp_ast.specs.Nesting.{nested, nesting, max_nesting, NestsWithin, PassesAt}
+use Rattle.jp_ast.specs.Answer.{ReadAs, ParsedAs}
 use Rattle.jp_parse.specs.Readers.{parsed}
 use Rattle.jp_parse.proofs.Exact.{Tokens}
 use Rattle.jp_parse.proofs.Top.{parsed_read}

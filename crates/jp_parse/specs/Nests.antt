@@ -2,13 +2,13 @@
 use Rattle.std.specs.Prelude.{ℕ, List, Result}
 use Rattle.std.specs.declared.alloc.Global.{Global}
 use denote.Ref.{MutBor}
-use Rattle.jp_parse.specs.declared.tree.Ast.{Ast}
-use Rattle.jp_parse.specs.declared.tree.FromItem.{FromItem}
-use Rattle.jp_parse.specs.declared.tree.Select.{Select}
-use Rattle.jp_parse.specs.declared.stop.Stop.{Stop}
-use Rattle.jp_parse.specs.Seen.{Seen}
+use Rattle.jp_ast.specs.declared.tree.Ast.{Ast}
+use Rattle.jp_ast.specs.declared.tree.FromItem.{FromItem}
+use Rattle.jp_ast.specs.declared.tree.Select.{Select}
+use Rattle.jp_cursor.specs.declared.stop.Stop.{Stop}
+use Rattle.jp_ast.specs.Seen.{Seen}
 use Rattle.jp_parse.specs.Readers.{expr, select, item}
-use Rattle.jp_parse.specs.Reads.{Reads}
+use Rattle.jp_cursor.specs.Reads.{Reads}
 
 -- what a call may be made of, and what it may give
 abbrev pub Pre : Type 1

@@ -1,14 +1,14 @@
 -- Parts of rules that the code has as functions.
 use Rattle.std.specs.Prelude.{ℕ, Bool, List, Option, Some, None, if◌then◌else◌}
-use Rattle.jp_parse.specs.declared.tree.Ast.{Ast}
-use Rattle.jp_parse.specs.declared.tree.Ast.TheVariants as ast
-use Rattle.jp_parse.specs.declared.tree.Select.{Select}
-use Rattle.jp_parse.specs.declared.class.Class.TheVariants as k
-use Rattle.jp_parse.specs.Nodes.{negated_at}
+use Rattle.jp_ast.specs.declared.tree.Ast.{Ast}
+use Rattle.jp_ast.specs.declared.tree.Ast.TheVariants as ast
+use Rattle.jp_ast.specs.declared.tree.Select.{Select}
+use Rattle.jp_ast.specs.declared.class.Class.TheVariants as k
+use Rattle.jp_ast.specs.Nodes.{negated_at}
 use Rattle.jp_parse.specs.Readers.{cat}
-use Rattle.jp_parse.specs.declared.class.Class.{Class}
-use Rattle.jp_parse.specs.Classes.{is_name}
-use Rattle.jp_parse.specs.Reading.{Reader, ◌>>=◌, pure, name, expect, ◌>>◌}
+use Rattle.jp_ast.specs.declared.class.Class.{Class}
+use Rattle.jp_ast.specs.Classes.{is_name}
+use Rattle.jp_cursor.specs.Reading.{Reader, ◌>>=◌, pure, name, expect, ◌>>◌}
 
 abbrev pub some_name : Reader (Option (List ℕ))
 some_name = name >>= (λ n. pure (Some n))

@@ -1,47 +1,24 @@
 -- A reader for each rule. A rule that stands in parentheses of its own is a parameter: E reads an expression, Q a
 -- select and I an item of FROM.
 use Rattle.std.specs.Prelude.{ℕ, zero, suc, Bool, true, false, if◌then◌else◌, List, [], ◌∷◌, length, Option, Some, None, Result, Ok, Err}
-use Rattle.jp_parse.specs.declared.tree.Stmt.{Stmt}
-use Rattle.jp_parse.specs.declared.tree.OrderAst.{OrderAst}
-use Rattle.jp_parse.specs.declared.tree.Ast.{Ast}
-use Rattle.jp_parse.specs.declared.tree.Ast.TheVariants as ast
-use Rattle.jp_parse.specs.declared.tree.FromItem.{FromItem}
-use Rattle.jp_parse.specs.declared.tree.FromItem.TheVariants as from
-use Rattle.jp_parse.specs.declared.tree.Target.{Target}
-use Rattle.jp_parse.specs.declared.tree.Target.TheVariants as target
-use Rattle.jp_parse.specs.declared.tree.Select.{Select}
-use Rattle.jp_parse.specs.declared.tree.CmpWord.{CmpWord}
-use Rattle.jp_parse.specs.declared.tree.IsWord.{IsWord}
-use Rattle.jp_parse.specs.declared.tree.JoinWord.{JoinWord}
-use Rattle.jp_parse.specs.declared.tree.JoinWord.TheVariants as join
-use Rattle.jp_parse.specs.declared.class.Class.{Class}
-use Rattle.jp_parse.specs.declared.class.Class.TheVariants as k
-use Rattle.jp_parse.specs.Seen.{Seen}
-use Rattle.jp_parse.specs.Classes.{class, is_name}
-use Rattle.jp_parse.specs.Nodes.{chain, or_node, and_node, concat_node, product_node, sum_of, negated_at, is_sign, is_minus, is_comparison, comparison, is_test, test_word, Joined, join_chain, select_of}
-use Rattle.jp_parse.specs.Place.{end_of}
-use Rattle.jp_parse.specs.Reading.{Reader, Outcome, ◌>>=◌, ◌>>◌, pure, refuse, peek, here, is, token_if, expect, name, text, number, eat, peek_all_of, many, listed}
-
--- ---- single tokens
-
-abbrev pub minus_in : Seen → Bool
-minus_in t = is_minus (class t)
-
--- a sign, and whether it is `-`
-unfoldable pub sign_token : Reader Bool
-sign_token = token_if is_sign minus_in
-
-abbrev pub comparison_in : Seen → CmpWord
-comparison_in t = comparison (class t)
-
-unfoldable pub comparison_token : Reader CmpWord
-comparison_token = token_if is_comparison comparison_in
-
-abbrev pub test_in : Seen → IsWord
-test_in t = test_word (class t)
-
-unfoldable pub test_token : Reader IsWord
-test_token = token_if is_test test_in
+use Rattle.jp_ast.specs.declared.tree.Stmt.{Stmt}
+use Rattle.jp_ast.specs.declared.tree.OrderAst.{OrderAst}
+use Rattle.jp_ast.specs.declared.tree.Ast.{Ast}
+use Rattle.jp_ast.specs.declared.tree.Ast.TheVariants as ast
+use Rattle.jp_ast.specs.declared.tree.FromItem.{FromItem}
+use Rattle.jp_ast.specs.declared.tree.FromItem.TheVariants as from
+use Rattle.jp_ast.specs.declared.tree.Target.{Target}
+use Rattle.jp_ast.specs.declared.tree.Target.TheVariants as target
+use Rattle.jp_ast.specs.declared.tree.Select.{Select}
+use Rattle.jp_ast.specs.declared.tree.JoinWord.{JoinWord}
+use Rattle.jp_ast.specs.declared.tree.JoinWord.TheVariants as join
+use Rattle.jp_ast.specs.declared.class.Class.{Class}
+use Rattle.jp_ast.specs.declared.class.Class.TheVariants as k
+use Rattle.jp_ast.specs.Seen.{Seen}
+use Rattle.jp_ast.specs.Classes.{is_name}
+use Rattle.jp_ast.specs.Nodes.{chain, or_node, and_node, concat_node, product_node, sum_of, negated_at, is_sign, is_comparison, Joined, join_chain, select_of}
+use Rattle.jp_ast.specs.Place.{end_of}
+use Rattle.jp_cursor.specs.Reading.{Reader, Outcome, ◌>>=◌, ◌>>◌, pure, refuse, peek, here, is, expect, name, text, number, sign_token, comparison_token, test_token, eat, peek_all_of, begins_join, many, listed}
 
 -- [[AS] name]
 abbrev pub alias_by : Class → Reader (Option (List ℕ))
@@ -175,15 +152,6 @@ side_by _ = pure join.Inner
 
 unfoldable pub side : Reader JoinWord
 side = peek >>= side_by
-
-abbrev pub begins_join : Class → Bool
-begins_join k.Cross = true
-begins_join k.Inner = true
-begins_join k.Left = true
-begins_join k.Right = true
-begins_join k.Full = true
-begins_join k.Join = true
-begins_join _ = false
 
 -- ---- targets without expressions
 
@@ -387,8 +355,8 @@ module _ (E : Reader Ast) (Q : Reader Select) where
     a ← range
     compare_tail at a
 
-  unfoldable pub test : Reader Ast
-  test = do
+  unfoldable pub test_level : Reader Ast
+  test_level = do
     at ← here
     a ← compare
     test_tail at a
@@ -397,12 +365,12 @@ module _ (E : Reader Ast) (Q : Reader Select) where
   negated = do
     at ← here
     expect k.Not
-    a ← test
+    a ← test_level
     pure (ast.Not a at)
 
   abbrev pub not_by : Class → Reader Ast
   not_by k.Not = negated
-  not_by _ = test
+  not_by _ = test_level
 
   unfoldable pub not_level : Reader Ast
   not_level = peek >>= not_by

@@ -1,11 +1,11 @@
 -- The answer to a list of tokens, by the readers.
-use Rattle.std.specs.Prelude.{◌≡◌, ◌⊎◌, ℕ, Bool, true, false, nat_lt, if◌then◌else◌, List, [], ◌∷◌, Option, Some, None, Result, Ok, Err}
-use Rattle.jp_parse.specs.declared.tree.Stmt.{Stmt}
-use Rattle.jp_parse.specs.declared.errors.ParseError.{ParseError}
-use Rattle.jp_parse.specs.declared.errors.ParseError.TheVariants.{Syntax, TooDeep, Memory}
-use Rattle.jp_parse.specs.Seen.{Seen}
-use Rattle.jp_parse.specs.Nesting.{nested, max_nesting}
-use Rattle.jp_parse.specs.Reading.{Outcome}
+use Rattle.std.specs.Prelude.{◌≡◌, ◌⊎◌, ℕ, nat_lt, if◌then◌else◌, List, [], ◌∷◌, Option, Some, None, Result, Ok, Err}
+use Rattle.jp_ast.specs.declared.tree.Stmt.{Stmt}
+use Rattle.jp_ast.specs.declared.errors.ParseError.{ParseError}
+use Rattle.jp_ast.specs.declared.errors.ParseError.TheVariants.{Syntax, TooDeep, Memory}
+use Rattle.jp_ast.specs.Seen.{Seen}
+use Rattle.jp_ast.specs.Nesting.{nested, max_nesting}
+use Rattle.jp_cursor.specs.Reading.{Outcome}
 use Rattle.jp_parse.specs.Readers.{verdict, parsed}
 
 -- the place of the first token behind which more places are open than may be, where `open'` are before the tokens
@@ -32,7 +32,3 @@ answer ts = judged ts (passing_from 0 ts)
 -- The answer is the defined one. Want of memory may come at any time.
 abbrev pub Agrees : Result Stmt ParseError → Result Stmt ParseError → Type 0
 Agrees result defined = (result ≡ Err Memory) ⊎ (result ≡ defined)
-
-abbrev pub is_empty : List Seen → Bool
-is_empty [] = true
-is_empty (t ∷ ts) = false

@@ -1,23 +1,19 @@
 //! Expressions that begin and end with tokens of their own.
 
 ghost use Rattle.std.specs.Prelude.{◌≡◌};
-ghost use Rattle.jp_parse.specs.declared.class.Class.TheVariants as k;
-ghost use Rattle.jp_parse.specs.Reading as reading;
+ghost use Rattle.jp_ast.specs.declared.class.Class.TheVariants as k;
+ghost use Rattle.jp_cursor.specs.Reading as reading;
 ghost use Rattle.jp_parse.specs.Readers as spec;
-ghost use Rattle.jp_parse.specs.declared.lists.Begin.TheVariants as begin;
-ghost use Rattle.jp_parse.specs.Lists.{begins_by, separated_by};
-ghost use Rattle.jp_parse.specs.Reads.{Reads};
+ghost use Rattle.jp_cursor.specs.declared.lists.Begin.TheVariants as begin;
+ghost use Rattle.jp_cursor.specs.Lists.{begins_by, separated_by};
+ghost use Rattle.jp_cursor.specs.Reads.{Reads};
 ghost use Rattle.jp_parse.specs.Parts.{some_expr};
 ghost use Rattle.jp_parse.specs.Nests.{Nests};
 
-use crate::class::Class;
-use crate::cursor::Cursor;
 use crate::grammar::Grammar;
-use crate::lists::{Begin, in_front, many, separated};
-use crate::nodes::boxed;
 use crate::parts::{false_atom, name_atom, null_atom, number_atom, text_atom, true_atom};
-use crate::stop::Stop;
-use crate::tree::{Ast, FromItem, Select};
+use jp_ast::{Ast, Class, FromItem, Select};
+use jp_cursor::{Begin, Cursor, Stop, boxed, followed, many, one, separated};
 use sqlite_items::{Boxed, Items};
 use std::alloc::Global;
 
@@ -33,8 +29,9 @@ impl<
     {
         tokens.expect(Class::Open)?;
         let inner = self.expr(tokens)?;
+        let inner = boxed(self.alloc, inner)?;
         tokens.expect(Class::Close)?;
-        Ok(inner)
+        Ok(inner.into_inner())
     }
 
     fn more_exprs(&self, tokens: &mut Cursor<'_, '_>) -> Result<Items<Ast>, Stop>
@@ -49,8 +46,9 @@ impl<
         ensures { Reads (reading.listed (spec.expr self.now.depth) tokens.old) result tokens.new }
     {
         let first = self.expr(tokens)?;
+        let first = one(self.alloc, first)?;
         let more = self.more_exprs(tokens)?;
-        let list = in_front(self.alloc, first, more)?;
+        let list = followed(first, more)?;
         Ok(list)
     }
 
@@ -97,9 +95,10 @@ impl<
     {
         tokens.expect(Class::When)?;
         let when = self.expr(tokens)?;
+        let when = boxed(self.alloc, when)?;
         tokens.expect(Class::Then)?;
         let value = self.expr(tokens)?;
-        Ok((when, value))
+        Ok((when.into_inner(), value))
     }
 
     fn more_arms(&self, tokens: &mut Cursor<'_, '_>) -> Result<Items<(Ast, Ast)>, Stop>
@@ -115,8 +114,9 @@ impl<
         ensures { Reads (spec.arms (spec.expr self.now.depth) tokens.old) result tokens.new }
     {
         let first = self.arm(tokens)?;
+        let first = one(self.alloc, first)?;
         let more = self.more_arms(tokens)?;
-        let arms = in_front(self.alloc, first, more)?;
+        let arms = followed(first, more)?;
         Ok(arms)
     }
 

@@ -1,23 +1,19 @@
 //! Items of FROM.
 
 ghost use Rattle.std.specs.Prelude.{◌≡◌};
-ghost use Rattle.jp_parse.specs.declared.class.Class.TheVariants as k;
-ghost use Rattle.jp_parse.specs.Reading as reading;
+ghost use Rattle.jp_ast.specs.declared.class.Class.TheVariants as k;
+ghost use Rattle.jp_cursor.specs.Reading as reading;
 ghost use Rattle.jp_parse.specs.Readers as spec;
-ghost use Rattle.jp_parse.specs.Classes.{first};
-ghost use Rattle.jp_parse.specs.declared.lists.Begin.TheVariants as begin;
-ghost use Rattle.jp_parse.specs.Lists.{begins_by, separated_by};
-ghost use Rattle.jp_parse.specs.Reads.{Reads};
+ghost use Rattle.jp_ast.specs.Classes.{first};
+ghost use Rattle.jp_cursor.specs.declared.lists.Begin.TheVariants as begin;
+ghost use Rattle.jp_cursor.specs.Lists.{begins_by, separated_by};
+ghost use Rattle.jp_cursor.specs.Reads.{Reads};
 ghost use Rattle.jp_parse.specs.Nests.{Nests};
 
-use crate::class::Class;
-use crate::cursor::Cursor;
 use crate::grammar::Grammar;
-use crate::lists::{Begin, many};
-use crate::nodes::{Joined, boxed, join_chain};
 use crate::parts::{alias, side, table};
-use crate::stop::Stop;
-use crate::tree::{Ast, FromItem, JoinWord, Select};
+use jp_ast::{Ast, Class, FromItem, JoinWord, Select};
+use jp_cursor::{Begin, Cursor, Joined, Stop, boxed, join_chain, many};
 use sqlite_items::Items;
 use std::alloc::Global;
 
@@ -44,8 +40,9 @@ impl<
         ensures { Reads (spec.grouped (spec.item self.now.depth) tokens.old) result tokens.new }
     {
         let item = self.item(tokens)?;
+        let item = boxed(self.alloc, item)?;
         tokens.expect(Class::Close)?;
-        Ok(item)
+        Ok(item.into_inner())
     }
 
     fn inside(&self, tokens: &mut Cursor<'_, '_>, at: u32) -> Result<FromItem, Stop>
@@ -100,6 +97,7 @@ impl<
         tokens.expect(Class::Cross)?;
         tokens.expect(Class::Join)?;
         let right = self.primary(tokens)?;
+        let right = boxed(self.alloc, right)?;
         Ok((JoinWord::Cross, right, None))
     }
 
@@ -111,8 +109,10 @@ impl<
         let kind = side(tokens)?;
         tokens.expect(Class::Join)?;
         let right = self.primary(tokens)?;
+        let right = boxed(self.alloc, right)?;
         tokens.expect(Class::On)?;
         let on = self.expr(tokens)?;
+        let on = boxed(self.alloc, on)?;
         Ok((kind, right, Some(on)))
     }
 
@@ -147,6 +147,7 @@ impl<
     {
         let at = tokens.place();
         let first = self.primary(tokens)?;
+        let first = boxed(self.alloc, first)?;
         let joins = self.more_joins(tokens)?;
         let item = join_chain(self.alloc, at, first, joins)?;
         Ok(item)

@@ -2,12 +2,11 @@
 
 ghost use Rattle.std.specs.Prelude.{◌≡◌};
 ghost use Rattle.jp_parse.specs.Readers as spec;
-ghost use Rattle.jp_parse.specs.Reads.{Reads};
+ghost use Rattle.jp_cursor.specs.Reads.{Reads};
 ghost use Rattle.jp_parse.specs.Nests.{Nests};
 
-use crate::cursor::Cursor;
-use crate::stop::Stop;
-use crate::tree::{Ast, FromItem, Select};
+use jp_ast::{Ast, FromItem, Select};
+use jp_cursor::{Cursor, Stop};
 use std::alloc::Global;
 
 #[derive(Clone, Copy)]

@@ -1,18 +1,21 @@
 ghost use Rattle.std.specs.Prelude.{◌≡◌, ℕ, List, Result};
-ghost use Rattle.jp_parse.specs.declared.tree.Stmt.{Stmt as Statement};
-ghost use Rattle.jp_parse.specs.declared.errors.ParseError.{ParseError as Refusal};
+ghost use Rattle.jp_ast.specs.declared.tree.Stmt.{Stmt as Statement};
+ghost use Rattle.jp_ast.specs.declared.errors.ParseError.{ParseError as Refusal};
 ghost use Rattle.jp_lex.specs.declared.token.TokenKind.{TokenKind as Kind};
 ghost use Rattle.jp_lex.specs.Cutting.{Form};
-ghost use Rattle.jp_parse.specs.Seen.{Seen, content_of, folded};
-ghost use Rattle.jp_parse.specs.Grammar.{Derives};
-ghost use Rattle.jp_parse.specs.Place.{Stuck};
-ghost use Rattle.jp_parse.specs.Answer.{ReadAs, ParsedAs, Says};
+ghost use Rattle.jp_ast.specs.Seen.{Seen, content_of, folded};
+ghost use Rattle.jp_ast.specs.Grammar.{Derives};
+ghost use Rattle.jp_ast.specs.Place.{Stuck};
+ghost use Rattle.jp_ast.specs.Answer.{ReadAs, ParsedAs, Says};
 ghost use Rattle.jp_parse.specs.Readers.{parsed};
+ghost use Rattle.jp_parse.specs.Verdict.{answer};
 
 /// A law: the reader of tokens answers the statement that they derive, or the place where they stop being the
-/// beginning of one. Each list derives at most one statement and stops at one place.
+/// beginning of one. Each list derives at most one statement and stops at one place. So the answer to tokens is also
+/// a function of them, which is never want of memory.
 pub fn each_list_is_read_as_it_derives()
     ensures read { (ts : List Seen) → ReadAs ts (parsed ts) }
+    ensures answered { (ts : List Seen) → ParsedAs ts (answer ts) × Says (answer ts) }
     ensures one { (ts : List Seen) (s t : Statement) → Derives ts s → Derives ts t → s ≡ t }
     ensures place { (ts : List Seen) (n m : ℕ) → Stuck ts n → Stuck ts m → n ≡ m }
 {}

@@ -1,29 +1,24 @@
 //! The levels of expressions, from those that bind tightest.
 
 ghost use Rattle.std.specs.Prelude.{◌≡◌};
-ghost use Rattle.jp_parse.specs.declared.class.Class.TheVariants as k;
-ghost use Rattle.jp_parse.specs.Reading as reading;
+ghost use Rattle.jp_ast.specs.declared.class.Class.TheVariants as k;
+ghost use Rattle.jp_cursor.specs.Reading as reading;
 ghost use Rattle.jp_parse.specs.Readers as spec;
-ghost use Rattle.jp_parse.specs.Classes.{first};
-ghost use Rattle.jp_parse.specs.declared.lists.Begin.TheVariants as begin;
-ghost use Rattle.jp_parse.specs.Lists.{begins_by, separated_by};
+ghost use Rattle.jp_ast.specs.Classes.{first};
+ghost use Rattle.jp_cursor.specs.declared.lists.Begin.TheVariants as begin;
+ghost use Rattle.jp_cursor.specs.Lists.{begins_by, separated_by};
 ghost use Rattle.jp_parse.specs.Parts.{upper_bound};
-ghost use Rattle.jp_parse.specs.Reads.{Reads};
+ghost use Rattle.jp_cursor.specs.Reads.{Reads};
 ghost use Rattle.jp_parse.specs.Nests.{Nests};
 
-use crate::class::Class;
-use crate::classes::{is_comparison, is_sign};
-use crate::cursor::Cursor;
 use crate::grammar::Grammar;
-use crate::lists::{Begin, many, separated};
-use crate::nodes::{
-    Chain, between_node, boxed, compare_node, gathered, in_list_node, in_select_node, negated_at,
-    total,
-};
 use crate::parts::test_tail;
-use crate::stop::Stop;
-use crate::tree::{Ast, FromItem, Select};
-use sqlite_items::Items;
+use jp_ast::{Ast, Class, FromItem, Select};
+use jp_cursor::{
+    Begin, Chain, Cursor, Stop, between_node, boxed, gathered, is_comparison, is_sign, many,
+    negated_at, separated, total,
+};
+use sqlite_items::{Boxed, Items};
 use std::alloc::Global;
 
 impl<
@@ -71,6 +66,7 @@ impl<
     {
         let at = tokens.place();
         let first = self.sign(tokens)?;
+        let first = boxed(self.alloc, first)?;
         let more = self.more_factors(tokens)?;
         let node = gathered(self.alloc, Chain::Product, at, first, more)?;
         Ok(node)
@@ -100,6 +96,7 @@ impl<
     {
         let at = tokens.place();
         let first = self.product(tokens)?;
+        let first = boxed(self.alloc, first)?;
         let more = self.more_terms(tokens)?;
         let sum = total(self.alloc, at, first, more)?;
         Ok(sum)
@@ -119,6 +116,7 @@ impl<
     {
         let at = tokens.place();
         let first = self.sum(tokens)?;
+        let first = boxed(self.alloc, first)?;
         let more = self.more_parts(tokens)?;
         let node = gathered(self.alloc, Chain::Concat, at, first, more)?;
         Ok(node)
@@ -129,15 +127,16 @@ impl<
         &self,
         tokens: &mut Cursor<'_, '_>,
         at: u32,
-        operand: Ast,
+        operand: Boxed<Ast>,
         negated: bool,
-        low: Ast,
+        low: Boxed<Ast>,
     ) -> Result<Ast, Stop>
         requires { Nests self.now.depth (E.pre self.now.expr) (E.post self.now.expr) (Q.pre self.now.select) (Q.post self.now.select) (I.pre self.now.item) (I.post self.now.item) }
         ensures { Reads (upper_bound (spec.expr self.now.depth) (spec.select self.now.depth) at operand negated low tokens.old) result tokens.new }
     {
         tokens.expect(Class::And)?;
         let high = self.cat(tokens)?;
+        let high = boxed(self.alloc, high)?;
         let node = between_node(self.alloc, at, negated, operand, low, high)?;
         Ok(node)
     }
@@ -147,7 +146,7 @@ impl<
         &self,
         tokens: &mut Cursor<'_, '_>,
         at: u32,
-        operand: Ast,
+        operand: Boxed<Ast>,
         negated: bool,
     ) -> Result<Ast, Stop>
         requires { Nests self.now.depth (E.pre self.now.expr) (E.post self.now.expr) (Q.pre self.now.select) (Q.post self.now.select) (I.pre self.now.item) (I.post self.now.item) }
@@ -155,25 +154,34 @@ impl<
     {
         tokens.expect(Class::Between)?;
         let low = self.cat(tokens)?;
+        let low = boxed(self.alloc, low)?;
         let node = self.upper_bound(tokens, at, operand, negated, low)?;
         Ok(node)
     }
 
     #[tactic(auto, unfolding(crate::specs::Readers::members))]
-    fn members(&self, tokens: &mut Cursor<'_, '_>, at: u32, operand: Ast) -> Result<Ast, Stop>
+    fn members(
+        &self,
+        tokens: &mut Cursor<'_, '_>,
+        at: u32,
+        operand: Boxed<Ast>,
+    ) -> Result<Ast, Stop>
         requires { Nests self.now.depth (E.pre self.now.expr) (E.post self.now.expr) (Q.pre self.now.select) (Q.post self.now.select) (I.pre self.now.item) (I.post self.now.item) }
         ensures { Reads (spec.members (spec.expr self.now.depth) (spec.select self.now.depth) at operand tokens.old) result tokens.new }
     {
         match tokens.peek() {
             Class::Select => {
                 let select = self.select(tokens)?;
-                let node = in_select_node(self.alloc, at, operand, select)?;
-                Ok(node)
+                let select = boxed(self.alloc, select)?;
+                Ok(Ast::InSelect {
+                    operand,
+                    select,
+                    at,
+                })
             }
             _ => {
                 let list = self.exprs(tokens)?;
-                let node = in_list_node(self.alloc, at, operand, list)?;
-                Ok(node)
+                Ok(Ast::InList { operand, list, at })
             }
         }
     }
@@ -183,7 +191,7 @@ impl<
         &self,
         tokens: &mut Cursor<'_, '_>,
         at: u32,
-        operand: Ast,
+        operand: Boxed<Ast>,
         negated: bool,
     ) -> Result<Ast, Stop>
         requires { Nests self.now.depth (E.pre self.now.expr) (E.post self.now.expr) (Q.pre self.now.select) (Q.post self.now.select) (I.pre self.now.item) (I.post self.now.item) }
@@ -192,12 +200,17 @@ impl<
         tokens.expect(Class::In)?;
         tokens.expect(Class::Open)?;
         let plain = self.members(tokens, at, operand)?;
+        let plain = boxed(self.alloc, plain)?;
         tokens.expect(Class::Close)?;
-        let node = negated_at(self.alloc, at, negated, plain)?;
-        Ok(node)
+        Ok(negated_at(at, negated, plain))
     }
 
-    fn behind_not(&self, tokens: &mut Cursor<'_, '_>, at: u32, operand: Ast) -> Result<Ast, Stop>
+    fn behind_not(
+        &self,
+        tokens: &mut Cursor<'_, '_>,
+        at: u32,
+        operand: Boxed<Ast>,
+    ) -> Result<Ast, Stop>
         requires { Nests self.now.depth (E.pre self.now.expr) (E.post self.now.expr) (Q.pre self.now.select) (Q.post self.now.select) (I.pre self.now.item) (I.post self.now.item) }
         ensures { Reads (spec.after_not_by (spec.expr self.now.depth) (spec.select self.now.depth) at operand (first tokens.old) tokens.old) result tokens.new }
     {
@@ -214,7 +227,12 @@ impl<
     }
 
     #[tactic(auto, unfolding(crate::specs::Readers::after_not))]
-    fn after_not(&self, tokens: &mut Cursor<'_, '_>, at: u32, operand: Ast) -> Result<Ast, Stop>
+    fn after_not(
+        &self,
+        tokens: &mut Cursor<'_, '_>,
+        at: u32,
+        operand: Boxed<Ast>,
+    ) -> Result<Ast, Stop>
         requires { Nests self.now.depth (E.pre self.now.expr) (E.post self.now.expr) (Q.pre self.now.select) (Q.post self.now.select) (I.pre self.now.item) (I.post self.now.item) }
         ensures { Reads (spec.after_not (spec.expr self.now.depth) (spec.select self.now.depth) at operand tokens.old) result tokens.new }
     {
@@ -224,7 +242,12 @@ impl<
     }
 
     #[tactic(auto, unfolding(crate::specs::Readers::range_tail))]
-    fn range_tail(&self, tokens: &mut Cursor<'_, '_>, at: u32, operand: Ast) -> Result<Ast, Stop>
+    fn range_tail(
+        &self,
+        tokens: &mut Cursor<'_, '_>,
+        at: u32,
+        operand: Boxed<Ast>,
+    ) -> Result<Ast, Stop>
         requires { Nests self.now.depth (E.pre self.now.expr) (E.post self.now.expr) (Q.pre self.now.select) (Q.post self.now.select) (I.pre self.now.item) (I.post self.now.item) }
         ensures { Reads (spec.range_tail (spec.expr self.now.depth) (spec.select self.now.depth) at operand tokens.old) result tokens.new }
     {
@@ -241,7 +264,7 @@ impl<
                 let node = self.among(tokens, at, operand, false)?;
                 Ok(node)
             }
-            _ => Ok(operand),
+            _ => Ok(operand.into_inner()),
         }
     }
 
@@ -252,23 +275,34 @@ impl<
     {
         let at = tokens.place();
         let operand = self.cat(tokens)?;
+        let operand = boxed(self.alloc, operand)?;
         let node = self.range_tail(tokens, at, operand)?;
         Ok(node)
     }
 
     #[tactic(auto, unfolding(crate::specs::Readers::compared))]
-    fn compared(&self, tokens: &mut Cursor<'_, '_>, at: u32, left: Ast) -> Result<Ast, Stop>
+    fn compared(&self, tokens: &mut Cursor<'_, '_>, at: u32, left: Boxed<Ast>) -> Result<Ast, Stop>
         requires { Nests self.now.depth (E.pre self.now.expr) (E.post self.now.expr) (Q.pre self.now.select) (Q.post self.now.select) (I.pre self.now.item) (I.post self.now.item) }
         ensures { Reads (spec.compared (spec.expr self.now.depth) (spec.select self.now.depth) at left tokens.old) result tokens.new }
     {
         let op = tokens.comparison()?;
         let right = self.range(tokens)?;
-        let node = compare_node(self.alloc, at, op, left, right)?;
-        Ok(node)
+        let right = boxed(self.alloc, right)?;
+        Ok(Ast::Compare {
+            op,
+            left,
+            right,
+            at,
+        })
     }
 
     #[tactic(auto, unfolding(crate::specs::Readers::compare_tail))]
-    fn compare_tail(&self, tokens: &mut Cursor<'_, '_>, at: u32, left: Ast) -> Result<Ast, Stop>
+    fn compare_tail(
+        &self,
+        tokens: &mut Cursor<'_, '_>,
+        at: u32,
+        left: Boxed<Ast>,
+    ) -> Result<Ast, Stop>
         requires { Nests self.now.depth (E.pre self.now.expr) (E.post self.now.expr) (Q.pre self.now.select) (Q.post self.now.select) (I.pre self.now.item) (I.post self.now.item) }
         ensures { Reads (spec.compare_tail (spec.expr self.now.depth) (spec.select self.now.depth) at left tokens.old) result tokens.new }
     {
@@ -276,7 +310,7 @@ impl<
             let node = self.compared(tokens, at, left)?;
             Ok(node)
         } else {
-            Ok(left)
+            Ok(left.into_inner())
         }
     }
 
@@ -287,18 +321,20 @@ impl<
     {
         let at = tokens.place();
         let left = self.range(tokens)?;
+        let left = boxed(self.alloc, left)?;
         let node = self.compare_tail(tokens, at, left)?;
         Ok(node)
     }
 
-    #[tactic(auto, unfolding(crate::specs::Readers::test))]
+    #[tactic(auto, unfolding(crate::specs::Readers::test_level))]
     fn test(&self, tokens: &mut Cursor<'_, '_>) -> Result<Ast, Stop>
         requires { Nests self.now.depth (E.pre self.now.expr) (E.post self.now.expr) (Q.pre self.now.select) (Q.post self.now.select) (I.pre self.now.item) (I.post self.now.item) }
-        ensures { Reads (spec.test (spec.expr self.now.depth) (spec.select self.now.depth) tokens.old) result tokens.new }
+        ensures { Reads (spec.test_level (spec.expr self.now.depth) (spec.select self.now.depth) tokens.old) result tokens.new }
     {
         let at = tokens.place();
         let operand = self.compare(tokens)?;
-        let node = test_tail(self.alloc, tokens, at, operand)?;
+        let operand = boxed(self.alloc, operand)?;
+        let node = test_tail(tokens, at, operand)?;
         Ok(node)
     }
 
@@ -350,6 +386,7 @@ impl<
     {
         let at = tokens.place();
         let first = self.not_level(tokens)?;
+        let first = boxed(self.alloc, first)?;
         let more = self.more_conditions(tokens)?;
         let node = gathered(self.alloc, Chain::And, at, first, more)?;
         Ok(node)
@@ -374,6 +411,7 @@ impl<
     {
         let at = tokens.place();
         let first = self.and_level(tokens)?;
+        let first = boxed(self.alloc, first)?;
         let more = self.more_choices(tokens)?;
         let node = gathered(self.alloc, Chain::Or, at, first, more)?;
         Ok(node)

@@ -1,19 +1,16 @@
 //! Rules without expressions.
 
 ghost use Rattle.std.specs.Prelude.{◌≡◌};
-ghost use Rattle.jp_parse.specs.declared.class.Class.TheVariants as k;
+ghost use Rattle.jp_ast.specs.declared.class.Class.TheVariants as k;
 ghost use Rattle.jp_parse.specs.Readers as spec;
-ghost use Rattle.jp_parse.specs.Classes.{first};
-ghost use Rattle.jp_parse.specs.Reads.{Reads};
+ghost use Rattle.jp_ast.specs.Classes.{first};
+ghost use Rattle.jp_cursor.specs.Reads.{Reads};
 ghost use Rattle.jp_parse.specs.Parts.{some_name, bare_alias};
 
-use crate::class::Class;
-use crate::classes::is_name;
-use crate::cursor::Cursor;
-use crate::nodes::boxed;
-use crate::stop::Stop;
-use crate::tree::{Ast, FromItem, JoinWord, Target};
+use jp_ast::{Ast, Class, FromItem, JoinWord, Target};
 use jp_base::Txt;
+use jp_cursor::{Cursor, Stop, is_name};
+use sqlite_items::Boxed;
 use std::alloc::Global;
 
 #[tactic(auto, unfolding(crate::specs::Readers::number_atom))]
@@ -97,13 +94,12 @@ pub fn name_atom(alloc: Global, tokens: &mut Cursor<'_, '_>) -> Result<Ast, Stop
 }
 
 #[tactic(auto, unfolding(crate::specs::Readers::tested))]
-fn tested(alloc: Global, tokens: &mut Cursor<'_, '_>, at: u32, operand: Ast) -> Result<Ast, Stop>
+fn tested(tokens: &mut Cursor<'_, '_>, at: u32, operand: Boxed<Ast>) -> Result<Ast, Stop>
     ensures { Reads (spec.tested at operand tokens.old) result tokens.new }
 {
     tokens.expect(Class::Is)?;
     let negated = tokens.eat(Class::Not);
     let word = tokens.test()?;
-    let operand = boxed(alloc, operand)?;
     Ok(Ast::Is {
         operand,
         negated,
@@ -114,20 +110,15 @@ fn tested(alloc: Global, tokens: &mut Cursor<'_, '_>, at: u32, operand: Ast) -> 
 
 /// `IS [NOT] word` behind an operand, if it is there.
 #[tactic(auto, unfolding(crate::specs::Readers::test_tail))]
-pub fn test_tail(
-    alloc: Global,
-    tokens: &mut Cursor<'_, '_>,
-    at: u32,
-    operand: Ast,
-) -> Result<Ast, Stop>
+pub fn test_tail(tokens: &mut Cursor<'_, '_>, at: u32, operand: Boxed<Ast>) -> Result<Ast, Stop>
     ensures { Reads (spec.test_tail at operand tokens.old) result tokens.new }
 {
     match tokens.peek() {
         Class::Is => {
-            let test = tested(alloc, tokens, at, operand)?;
+            let test = tested(tokens, at, operand)?;
             Ok(test)
         }
-        _ => Ok(operand),
+        _ => Ok(operand.into_inner()),
     }
 }
 

@@ -1,21 +1,18 @@
 //! The select, and the whole statement.
 
 ghost use Rattle.std.specs.Prelude.{◌≡◌};
-ghost use Rattle.jp_parse.specs.declared.class.Class.TheVariants as k;
-ghost use Rattle.jp_parse.specs.Reading as reading;
+ghost use Rattle.jp_ast.specs.declared.class.Class.TheVariants as k;
+ghost use Rattle.jp_cursor.specs.Reading as reading;
 ghost use Rattle.jp_parse.specs.Readers as spec;
-ghost use Rattle.jp_parse.specs.Classes.{first};
-ghost use Rattle.jp_parse.specs.Lists.{separated_by};
-ghost use Rattle.jp_parse.specs.Reads.{Reads};
+ghost use Rattle.jp_ast.specs.Classes.{first};
+ghost use Rattle.jp_cursor.specs.Lists.{separated_by};
+ghost use Rattle.jp_cursor.specs.Reads.{Reads};
 ghost use Rattle.jp_parse.specs.Nests.{Nests};
 
-use crate::class::Class;
-use crate::cursor::Cursor;
 use crate::grammar::Grammar;
-use crate::lists::{in_front, separated};
 use crate::parts::{alias, all, all_of, direction, nulls};
-use crate::stop::Stop;
-use crate::tree::{Ast, FromItem, OrderAst, Select, Stmt, Target};
+use jp_ast::{Ast, Class, FromItem, OrderAst, Select, Stmt, Target};
+use jp_cursor::{Cursor, Stop, boxed, followed, one, separated};
 use sqlite_items::Items;
 use std::alloc::Global;
 
@@ -30,8 +27,12 @@ impl<
         ensures { Reads (spec.one (spec.expr self.now.depth) tokens.old) result tokens.new }
     {
         let expr = self.expr(tokens)?;
+        let expr = boxed(self.alloc, expr)?;
         let alias = alias(self.alloc, tokens)?;
-        Ok(Target::One { expr, alias })
+        Ok(Target::One {
+            expr: expr.into_inner(),
+            alias,
+        })
     }
 
     fn other_target(&self, tokens: &mut Cursor<'_, '_>) -> Result<Target, Stop>
@@ -81,8 +82,9 @@ impl<
         ensures { Reads (reading.listed (spec.target_of (spec.expr self.now.depth)) tokens.old) result tokens.new }
     {
         let first = self.target(tokens)?;
+        let first = one(self.alloc, first)?;
         let more = self.more_targets(tokens)?;
-        let list = in_front(self.alloc, first, more)?;
+        let list = followed(first, more)?;
         Ok(list)
     }
 
@@ -113,8 +115,9 @@ impl<
         ensures { Reads (reading.listed (spec.item self.now.depth) tokens.old) result tokens.new }
     {
         let first = self.item(tokens)?;
+        let first = one(self.alloc, first)?;
         let more = self.more_items(tokens)?;
-        let list = in_front(self.alloc, first, more)?;
+        let list = followed(first, more)?;
         Ok(list)
     }
 
@@ -143,10 +146,11 @@ impl<
         ensures { Reads (spec.order (spec.expr self.now.depth) tokens.old) result tokens.new }
     {
         let expr = self.expr(tokens)?;
+        let expr = boxed(self.alloc, expr)?;
         let desc = direction(tokens)?;
         let nulls_first = nulls(tokens, desc)?;
         Ok(OrderAst {
-            expr,
+            expr: expr.into_inner(),
             desc,
             nulls_first,
         })
@@ -169,8 +173,9 @@ impl<
         ensures { Reads (reading.listed (spec.order (spec.expr self.now.depth)) tokens.old) result tokens.new }
     {
         let first = self.order(tokens)?;
+        let first = one(self.alloc, first)?;
         let more = self.more_orders(tokens)?;
-        let list = in_front(self.alloc, first, more)?;
+        let list = followed(first, more)?;
         Ok(list)
     }
 
@@ -196,8 +201,12 @@ impl<
         ensures { Reads (spec.statement_of (spec.expr self.now.depth) (spec.select self.now.depth) tokens.old) result tokens.new }
     {
         let select = self.select(tokens)?;
+        let select = boxed(self.alloc, select)?;
         let order = self.orders(tokens)?;
         tokens.eat(Class::Semicolon);
-        Ok(Stmt { select, order })
+        Ok(Stmt {
+            select: select.into_inner(),
+            order,
+        })
     }
 }

@@ -2,21 +2,17 @@
 
 ghost use Rattle.std.specs.Prelude.{◌≡◌, ◌≤◌, suc, length, Ok, Err};
 ghost use Rattle.jp_lex.specs.Cutting.{Bytes, lexemes, Tokens};
-ghost use Rattle.jp_parse.specs.Answer.{ParsedAs};
-ghost use Rattle.jp_parse.specs.Nesting.{nested_by};
-ghost use Rattle.jp_parse.specs.Place.{end_of};
+ghost use Rattle.jp_ast.specs.Answer.{ParsedAs};
+ghost use Rattle.jp_ast.specs.Nesting.{nested_by};
+ghost use Rattle.jp_ast.specs.Place.{end_of};
 ghost use Rattle.jp_parse.specs.Readers as spec;
 ghost use Rattle.jp_parse.specs.Verdict.{passing_from, ending, as_error, answer, Agrees};
-ghost use Rattle.jp_parse.specs.Reads.{Reads};
-ghost use Rattle.jp_parse.specs.SeenTokens.{seen_tokens, AllFit};
+ghost use Rattle.jp_cursor.specs.Reads.{Reads};
+ghost use Rattle.jp_ast.specs.SeenTokens.{seen_tokens, AllFit};
 
-use crate::class::Class;
-use crate::classes::class_of;
-use crate::cursor::Cursor;
-use crate::errors::ParseError;
 use crate::grammar::{Grammar, expr, item, select};
-use crate::stop::Stop;
-use crate::tree::Stmt;
+use jp_ast::{Class, ParseError, Stmt};
+use jp_cursor::{Cursor, Stop, class_of};
 use jp_lex::Token;
 use std::alloc::Global;
 

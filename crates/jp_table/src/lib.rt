@@ -9,8 +9,6 @@ mod loading;
 mod part;
 mod records;
 mod table;
-#[cfg(test)]
-mod tests;
 mod texts;
 
 pub use error::TableError;

@@ -1,5 +1,6 @@
-use Rattle.jp_parse.specs.SeenTokens.{seen_tokens}
-use Rattle.jp_parse.proofs.Fitting.{all_fit, answers}
+use Rattle.jp_ast.specs.SeenTokens.{seen_tokens}
+use Rattle.jp_ast.proofs.Fitting.{all_fit}
+use Rattle.jp_parse.proofs.Answering.{answers}
 use Rattle.jp_parse.proofs.whole.parse.Goals as goal
 
 pub answered-requires : goal.answered-requires

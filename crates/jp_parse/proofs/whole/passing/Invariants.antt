@@ -1,6 +1,6 @@
 use Rattle.std.proofs.Common.{◌≡◌, ◌≤◌, drop}
 use Rattle.jp_parse.specs.Verdict.{passing_from}
-use Rattle.jp_parse.specs.SeenTokens.{seen_tokens}
+use Rattle.jp_ast.specs.SeenTokens.{seen_tokens}
 use Rattle.jp_parse.proofs.whole.passing.Given as goal
 
 abbrev pub invariant-tokens : goal.invariant-tokens

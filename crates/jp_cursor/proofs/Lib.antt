@@ -1,0 +1,5 @@
+pub mod Behind
+pub mod Digits
+pub mod FirstFacts
+pub mod Taken
+pub mod Turns

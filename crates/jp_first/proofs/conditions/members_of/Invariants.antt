@@ -1,0 +1,14 @@
+use Rattle.std.proofs.Common.{◌≡◌, ◌+◌, length, option_map}
+use Rattle.std.specs.Option.{option_map_or}
+use Rattle.jp_first.specs.declared.cuts.Separator.TheVariants as separator
+use Rattle.jp_first.specs.declared.words.Word.TheVariants as word
+use Rattle.jp_first.specs.Cuts.{pieces_left, all_of}
+use Rattle.jp_first.specs.Conditions.{and_of, members_of}
+use Rattle.jp_first.proofs.Fronts.{with_front}
+use Rattle.jp_first.proofs.conditions.members_of.Given as goal
+
+abbrev pub invariant-pieces : goal.invariant-pieces
+invariant-pieces l = with_front l.members (all_of and_of (pieces_left (separator.Word word.Or) (option_map (λ left. left.now) l.rest))) ≡ members_of l.fn.tokens
+
+abbrev pub decreases-pieces : goal.decreases-pieces
+decreases-pieces l = option_map_or (λ left. length left.now + 1) l.rest 0
