@@ -7,9 +7,9 @@ use Rattle.std.proofs.lemmas.List.Elements.{All-append, All-nil, All-weaker}
 use Rattle.jp_catalog.specs.Reading.{Read, catalogue_of}
 use Rattle.jp_catalog.specs.declared.types.Catalog.{Catalog}
 use Rattle.jp_io.specs.Sinks.{TookMore}
-use Rattle.jp_naive.specs.Built.{TableRows, IsLoaded}
-use Rattle.jp_parse.specs.First.{statement_of}
-use Rattle.jp_parse.specs.declared.tree.Stmt.{Stmt}
+use Rattle.jp_query.specs.Tables.{TableRows, IsLoaded}
+use Rattle.jp_first.specs.First.{statement_of}
+use Rattle.jp_ast.specs.declared.tree.Stmt.{Stmt}
 use Rattle.jp_query.specs.declared.Query.{Query}
 use Rattle.jp_query.specs.Parts.{tables_in}
 use Rattle.jp_table.specs.Loading.{Judged, table_of}

@@ -13,9 +13,8 @@ use Rattle.jp_base.specs.declared.values.Ty.{Ty}
 use Rattle.jp_base.specs.declared.values.Ty.TheVariants as ty
 use Rattle.jp_catalog.specs.declared.types.Catalog.{Catalog}
 use Rattle.jp_catalog.specs.declared.types.TableDef.{TableDef}
-use Rattle.jp_naive.specs.Built.{TableRows, IsLoaded}
-use Rattle.jp_query.specs.Scopes as scopes
-use Rattle.jp_query.specs.Scopes.{Belong, IsTableOf, IsCellOf, IsWithin, Schema}
+use Rattle.jp_query.specs.Tables.{TableRows, IsLoaded, Belong, IsCellOf, IsRowOf as IsRowOfColumns}
+use Rattle.jp_query.specs.Scopes.{Column, Schema}
 use Rattle.jp_table.specs.Keys.{KeysHold}
 use Rattle.jp_table.specs.Loading.{column_types}
 use Rattle.jp_table.specs.Rows.{FitsColumn, IsRowOf}
@@ -38,13 +37,13 @@ belong_length (columns ∷ schema) (table ∷ tables) h = ap suc (belong_length 
 belong_length [] (table ∷ tables) h = absurd h
 belong_length (columns ∷ schema) [] h = absurd h
 
-pub set_belongs : (schema : Schema) (tables : TableRows) (place : ℕ) (columns : List scopes.Column) (rows : List (List Value)) → Belong schema tables → slice_get schema place ≡ Some columns → All (scopes.IsRowOf columns) rows → Belong schema (slice_set tables place (Some rows))
+pub set_belongs : (schema : Schema) (tables : TableRows) (place : ℕ) (columns : List Column) (rows : List (List Value)) → Belong schema tables → slice_get schema place ≡ Some columns → All (IsRowOfColumns columns) rows → Belong schema (slice_set tables place (Some rows))
 set_belongs [] [] place columns rows h at fit = tt
 set_belongs [] (table ∷ tables) place columns rows h at fit = absurd h
 set_belongs (own ∷ schema) [] place columns rows h at fit = absurd h
 set_belongs (own ∷ schema) (table ∷ tables) zero columns rows h at fit =
     let same : own ≡ columns = cc in
-    (subst (λ cs. All (scopes.IsRowOf cs) rows) (sym same) fit, h.1)
+    (subst (λ cs. All (IsRowOfColumns cs) rows) (sym same) fit, h.1)
 set_belongs (own ∷ schema) (table ∷ tables) (suc place) columns rows h at fit = (h.0, set_belongs schema tables place columns rows h.1 at fit)
 
 get_set : (tables : TableRows) (place : ℕ) (rows : List (List Value)) → place < length tables → slice_get (slice_set tables place (Some rows)) place ≡ Some (Some rows)
@@ -82,15 +81,15 @@ cell_fits (name, ty.Boolean) (value.Text s) h = absurd h
 cell_fits (name, ty.Text) (value.Num n) h = absurd h
 cell_fits (name, ty.Text) (value.Bool b) h = absurd h
 
-row_fits : (columns : List (List ℕ × Ty)) (row : List Value) → length row ≡ length columns → ((i : ℕ) → i < length columns → FitsColumn (slice_index_or (map (λ column. column.1) columns) i ty.Number) (slice_index_or row i value.Null)) → scopes.IsRowOf (schema_columns columns) row
+row_fits : (columns : List (List ℕ × Ty)) (row : List Value) → length row ≡ length columns → ((i : ℕ) → i < length columns → FitsColumn (slice_index_or (map (λ column. column.1) columns) i ty.Number) (slice_index_or row i value.Null)) → IsRowOfColumns (schema_columns columns) row
 row_fits [] [] same fit = tt
 row_fits [] (cell ∷ row) same fit = absurd cc
 row_fits (column ∷ columns) [] same fit = absurd cc
 row_fits (column ∷ columns) (cell ∷ row) same fit = (cell_fits column cell (fit zero (omega arith)), row_fits columns row (omega (arith, same)) (λ i below. fit (suc i) (omega (arith, below))))
 
-pub rows_fit : (def : TableDef) (rows : List (List Value)) → All (IsRowOf (column_types def)) rows → All (scopes.IsRowOf (schema_columns def.columns)) rows
+pub rows_fit : (def : TableDef) (rows : List (List Value)) → All (IsRowOf (column_types def)) rows → All (IsRowOfColumns (schema_columns def.columns)) rows
 rows_fit def rows fit =
-    All-weaker (IsRowOf (column_types def)) (scopes.IsRowOf (schema_columns def.columns)) (λ row h. row_fits def.columns row (h.width ∙ length-map def.columns (λ column. column.1)) (λ i below. h.values i (omega (arith, below, length-map def.columns (λ column. column.1))))) rows fit
+    All-weaker (IsRowOf (column_types def)) (IsRowOfColumns (schema_columns def.columns)) (λ row h. row_fits def.columns row (h.width ∙ length-map def.columns (λ column. column.1)) (λ i below. h.values i (omega (arith, below, length-map def.columns (λ column. column.1))))) rows fit
 
 -- the columns of a place of the catalogue
 pub columns_listed : (catalog : Catalog) (place : ℕ) (table : NamedTable) → slice_get catalog.tables place ≡ Some table → slice_get (schema_of catalog) place ≡ Some (table_columns table)

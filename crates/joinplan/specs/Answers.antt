@@ -6,12 +6,11 @@ use Rattle.jp_base.specs.declared.values.Value.{Value}
 use Rattle.jp_catalog.specs.Reading.{Read, catalogue_of}
 use Rattle.jp_catalog.specs.declared.types.Catalog.{Catalog}
 use Rattle.jp_catalog.specs.declared.types.TableDef.{TableDef}
-use Rattle.jp_naive.specs.Built.{TableRows, outermost}
-use Rattle.jp_parse.specs.First.{statement_of}
-use Rattle.jp_parse.specs.declared.tree.Stmt.{Stmt}
-use Rattle.jp_query.specs.Meaning.{meaning}
+use Rattle.jp_query.specs.Tables.{TableRows, rows_of_tables}
+use Rattle.jp_query.specs.Meaning.{no_outer_rows, meaning}
+use Rattle.jp_first.specs.First.{statement_of}
+use Rattle.jp_ast.specs.declared.tree.Stmt.{Stmt}
 use Rattle.jp_query.specs.Parts.{tables_in}
-use Rattle.jp_query.specs.Scopes.{rows_of_tables}
 use Rattle.jp_query.specs.declared.Output.{Output, out-Output}
 use Rattle.jp_query.specs.declared.Query.{Query, out-Query}
 use Rattle.jp_table.specs.Loading.{Judged, table_of}
@@ -92,7 +91,7 @@ name_of output = (out-Output output).name
 
 -- the query's meaning, printed
 abbrev pub printed : Query → TableRows → List ℕ
-printed query tables = output_text (map name_of (out-Query query).columns) (meaning (rows_of_tables tables) query outermost)
+printed query tables = output_text (map name_of (out-Query query).columns) (meaning (rows_of_tables tables) query no_outer_rows)
 
 abbrev pub output_in : Held → Catalog → Query → Reading (List ℕ)
 output_in held catalog query = and_then (tables_read held catalog query) (λ tables. known (Ok (printed query tables)))

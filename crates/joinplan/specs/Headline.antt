@@ -4,12 +4,11 @@ use Rattle.std.specs.Prelude.{◌≡◌, ℕ, ◌≤◌, List, [], ◌∷◌, �
 use Rattle.jp_catalog.specs.Reading.{catalogue_of}
 use Rattle.jp_catalog.specs.declared.types.Catalog.{Catalog}
 use Rattle.jp_io.specs.Sinks.{TookMore}
-use Rattle.jp_naive.specs.Built.{TableRows, outermost}
-use Rattle.jp_parse.specs.First.{statement_of}
-use Rattle.jp_parse.specs.declared.tree.Stmt.{Stmt}
-use Rattle.jp_query.specs.Meaning.{meaning}
+use Rattle.jp_query.specs.Tables.{TableRows, rows_of_tables}
+use Rattle.jp_query.specs.Meaning.{no_outer_rows, meaning}
+use Rattle.jp_first.specs.First.{statement_of}
+use Rattle.jp_ast.specs.declared.tree.Stmt.{Stmt}
 use Rattle.jp_query.specs.Parts.{tables_in}
-use Rattle.jp_query.specs.Scopes.{rows_of_tables}
 use Rattle.jp_query.specs.declared.Query.{Query, out-Query}
 use Rattle.jp_table.specs.Loading.{table_of}
 use Rattle.jp_resolve.specs.Resolving.{query_of}
@@ -60,7 +59,7 @@ pub record IsMeaning (held : Held) (catalogue statement : List ℕ) (bytes : Lis
   pub query_is : query_of catalog stmt ≡ Some query
   pub tables : TableRows
   pub tables_are : HasTables held catalog query tables
-  pub printed : bytes ≡ output_text (map name_of (out-Query query).columns) (meaning (rows_of_tables tables) query outermost)
+  pub printed : bytes ≡ output_text (map name_of (out-Query query).columns) (meaning (rows_of_tables tables) query no_outer_rows)
 
 -- a line for each table, with the number of its rows
 abbrev pub AreCounted : Held → List NamedTable → List ℕ → Type 0

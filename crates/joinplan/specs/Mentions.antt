@@ -2,7 +2,7 @@
 use Rattle.std.specs.Prelude.{ℕ, Bool, true, false, List, [], ◌∷◌, ◌++◌, Option, Some, None}
 use Rattle.std.specs.List.{flat_map}
 use Rattle.jp_catalog.specs.declared.types.TableDef.{TableDef}
-use Rattle.jp_naive.specs.Built.{TableRows}
+use Rattle.jp_query.specs.Tables.{TableRows}
 use Rattle.jp_query.specs.declared.JoinTree.{JoinTree}
 use Rattle.jp_query.specs.declared.Expr.TheOpen.{JoinTree-F}
 use Rattle.jp_query.specs.declared.Expr.TheFolds.{fold-JoinTree}

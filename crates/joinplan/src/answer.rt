@@ -1,7 +1,8 @@
 ghost use Rattle.std.specs.Prelude.{◌≡◌, ◌≢◌, ◌⊎◌, [], Err, IfErr, IfOk, None, Some, map, string_bytes};
 ghost use Rattle.jp_catalog.specs.Sound.{IsSound};
 ghost use Rattle.jp_io.specs.Files.{NoneFalls};
-ghost use Rattle.jp_naive.specs.Built.{AllLoaded, IsBuilt, IsTypedOver};
+ghost use Rattle.jp_query.specs.Tables.{AllLoaded, IsTypedOver};
+ghost use Rattle.jp_query.specs.Evaluable.{IsBuilt};
 ghost use Rattle.jp_query.specs.Conditions.{IsBounded, IsTyped};
 ghost use Rattle.jp_query.specs.Freshness.{IsFresh};
 ghost use Rattle.jp_resolve.specs.Schemas.{schema_of};

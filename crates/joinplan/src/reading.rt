@@ -12,10 +12,11 @@ ghost use Rattle.joinplan.specs.Refusals.{IsNamed};
 ghost use Rattle.joinplan.specs.declared.refusal.Refusal.TheVariants as refusal;
 
 use crate::refusal::Refusal;
+use jp_ast::Stmt;
 use jp_base::{Memory, Txt};
 use jp_catalog::{Catalog, CatalogError, TableDef, read_catalog};
+use jp_first::{FirstError, parse_first};
 use jp_io::{FileError, Files, read_file};
-use jp_parse::{FirstError, Stmt, parse_first};
 use jp_table::{Table, TableError, load};
 use std::alloc::Global;
 

@@ -5,18 +5,17 @@ use Rattle.std.proofs.lemmas.Bool.{and_parts, false≢true}
 use Rattle.jp_base.specs.declared.values.Value.TheVariants as value
 use Rattle.jp_base.specs.Truth.{not_of}
 use Rattle.jp_query.specs.declared.Expr.TheViews.{roll-Expr}
-use Rattle.jp_query.specs.declared.Expr.TheFolds.{map-Expr, ind-Expr, fold-roll-Expr}
+use Rattle.jp_query.specs.declared.Expr.TheFolds.{map-Expr, ind-Expr, fold-roll-Expr, fold-JoinTree, fold-Order, fold-Output, fold-Query}
 use Rattle.jp_query.specs.declared.Expr.{Expr}
 use Rattle.jp_query.specs.declared.JoinTree.{JoinTree}
 use Rattle.jp_query.specs.declared.Order.{Order}
 use Rattle.jp_query.specs.declared.Output.{Output}
 use Rattle.jp_query.specs.declared.Query.{Query}
 use Rattle.jp_query.specs.declared.Expr.TheOpen.{Expr-F}
-use Rattle.jp_query.specs.declared.Expr.TheFolds.{fold-JoinTree, fold-Order, fold-Output, fold-Query}
 use Rattle.jp_query.specs.Operators.{value_of_truth, truth_of_value, all_of, any_of, compared, passes}
 use Rattle.jp_query.specs.Conditions.{all_true}
 use Rattle.jp_query.specs.Meaning.{Row, Env, ValueIn, Tuples, SortKey, RowsIn, SublinkRows, given, in_place, truth_at, any_present, expr_value, tree_tuples, no_tables, order_key, output_value, query_rows, value_of, value_given}
-use Rattle.jp_eval.specs.Evaluable.{evaluable_level, is_evaluable, IsEvaluable}
+use Rattle.jp_query.specs.Evaluable.{evaluable_level, is_evaluable, IsEvaluable}
 
 module _ (rows tables : ℕ → List Row) where
   abbrev Agrees : Expr → Type 0

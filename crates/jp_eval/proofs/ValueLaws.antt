@@ -11,7 +11,8 @@ use Rattle.jp_query.specs.declared.Expr.{Expr}
 use Rattle.jp_query.specs.Operators.{value_of_truth, all_of, any_of}
 use Rattle.jp_query.specs.Meaning.{Row, Env, ValueIn, Tuples, SortKey, RowsIn, given, truth_at, expr_value, tree_tuples, no_tables, order_key, output_value, query_rows, value_given}
 use Rattle.jp_query.proofs.FoldLaws as laws
-use Rattle.jp_eval.specs.Evaluable.{evaluable_level, is_evaluable, truth_in}
+use Rattle.jp_query.specs.Evaluable.{evaluable_level, is_evaluable}
+use Rattle.jp_eval.specs.Truths.{truth_in}
 
 module _ (rows : ℕ → List Row) (env : Env) where
   map_on : (es : List Expr) → map (truth_at env) (map (value_given rows) es) ≡ map (truth_in rows env) es

@@ -1,7 +1,7 @@
 ghost use Rattle.std.specs.Prelude.{◌≡◌, ℕ, List};
 ghost use Rattle.jp_query.specs.declared.Expr.{Expr};
 ghost use Rattle.jp_query.specs.Meaning.{Row, Env, value_of, value_given};
-ghost use Rattle.jp_eval.specs.Evaluable.{IsEvaluable};
+ghost use Rattle.jp_query.specs.Evaluable.{IsEvaluable};
 
 /// A law: an expression that the evaluator takes has no sublink, so its value is the same with any rows for sublinks as
 /// with sublinks in place, over any tables.

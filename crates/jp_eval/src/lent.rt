@@ -5,7 +5,8 @@ ghost use Rattle.std.specs.List.{list_all};
 ghost use Rattle.jp_base.specs.Cells.{value_of_cell};
 ghost use Rattle.jp_query.specs.Operators.{all_of, any_of};
 ghost use Rattle.jp_query.specs.Meaning.{value_given};
-ghost use Rattle.jp_eval.specs.Evaluable.{is_evaluable, truth_in};
+ghost use Rattle.jp_query.specs.Evaluable.{is_evaluable};
+ghost use Rattle.jp_eval.specs.Truths.{truth_in};
 
 use crate::Env;
 use crate::operators::{cell_of_truth, comparison, is_met, truth_of_cell};

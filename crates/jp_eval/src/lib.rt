@@ -6,7 +6,7 @@ ghost use Rattle.std.specs.Prelude.{◌≡◌, ℕ, List, IsOk, IfOk};
 ghost use Rattle.jp_base.specs.Cells.{value_of_cell};
 ghost use Rattle.jp_query.specs.Meaning.{Row, Env as Environment, cell_in, value_of, value_given, truth_of, truth_given};
 ghost use Rattle.jp_placeholder.specs.Present.{IsPresentSet};
-ghost use Rattle.jp_eval.specs.Evaluable.{IsEvaluable};
+ghost use Rattle.jp_query.specs.Evaluable.{IsEvaluable};
 
 mod laws;
 mod lent;

@@ -2,7 +2,7 @@
 
 ghost use Rattle.std.specs.Prelude.{◌≡◌, ◌<◌, true, IfOk, OnOk};
 ghost use Rattle.std.specs.List.{list_all};
-ghost use Rattle.jp_eval.specs.Evaluable.{is_evaluable};
+ghost use Rattle.jp_query.specs.Evaluable.{is_evaluable};
 
 use crate::{Env, eval, holds};
 use jp_base::{Cell, Memory, RelNo, RelSet, Row, SubNo, Truth, Ty, Value};

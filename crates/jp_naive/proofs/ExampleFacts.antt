@@ -14,11 +14,11 @@ use Rattle.jp_query.specs.Freshness.{IsFresh, sublinks_in}
 use Rattle.jp_query.specs.Meaning.{Row}
 use Rattle.jp_query.specs.Parts.{tables_in, leaves_in, base_leaves_in}
 use Rattle.jp_query.specs.Refs.{only, union}
-use Rattle.jp_query.specs.Scopes.{Column, Schema, Belong, IsCellOf}
-use Rattle.jp_query.specs.Scopes as scopes
+use Rattle.jp_query.specs.Scopes.{Column}
+use Rattle.jp_query.specs.Tables.{Belong, IsCellOf, TableRows, IsLoaded, AllLoaded, IsTypedOver, IsRowOf as IsRowOfColumns}
 use Rattle.jp_query.proofs.TreeRules.{folds, paras}
 use Rattle.jp_table.specs.Rows.{FitsColumn, IsRowOf}
-use Rattle.jp_naive.specs.Built.{TableRows, IsBuilt, IsLoaded, AllLoaded, IsTypedOver}
+use Rattle.jp_query.specs.Evaluable.{IsBuilt}
 use Rattle.jp_naive.specs.Example.{ones, IsOneTable}
 
 -- ---- the table
@@ -40,7 +40,7 @@ cell ty.Text (value.Num n) h = absurd h
 cell ty.Text (value.Bool b) h = absurd h
 cell ty.Text (value.Text t) h = record { typed = tt; within = tt }
 
-row_belongs : (types : List Ty) (row : Row) → IsRowOf types row → scopes.IsRowOf (map column types) row
+row_belongs : (types : List Ty) (row : Row) → IsRowOf types row → IsRowOfColumns (map column types) row
 row_belongs [] [] r = tt
 row_belongs [] (v ∷ vs) r = absurd (omega (arith, r.width))
 row_belongs (t ∷ ts) [] r = absurd (omega (arith, r.width))

@@ -11,11 +11,10 @@ use Rattle.jp_query.specs.declared.Output.{Output}
 use Rattle.jp_query.specs.declared.Query.{Query, out-Query}
 use Rattle.jp_query.specs.declared.Expr.TheFolds.{fold-Order, fold-Output}
 use Rattle.jp_query.specs.Conditions.{all_true}
-use Rattle.jp_query.specs.Meaning.{Row, Env, ValueIn, Tuples, SortKey, RowsIn, Line, in_place, expr_value, tree_tuples, order_key, output_value, query_rows, holds, value_at, line_at, sorted, inserted, outputs_of, value_of, tuples_of, meaning}
+use Rattle.jp_query.specs.Meaning.{Row, Env, ValueIn, Tuples, SortKey, RowsIn, Line, in_place, expr_value, tree_tuples, order_key, output_value, query_rows, holds, value_at, line_at, sorted, inserted, outputs_of, value_of, tuples_of, meaning, no_outer_rows}
 use Rattle.jp_query.specs.Typing.{Typed, TypedOutput, TypedQuery, are_conditions, expr_type, tree_typed, order_typed, output_typed, query_typed, output_is_typed, tree_is_typed, typed_query, type_of}
 use Rattle.jp_query.proofs.FoldLaws as laws
-use Rattle.jp_eval.specs.Evaluable.{evaluable_level}
-use Rattle.jp_naive.specs.Built.{tree_built, order_built, output_built, query_built, is_none, expr_is_built, tree_is_built, IsBuilt, outermost}
+use Rattle.jp_query.specs.Evaluable.{evaluable_level, tree_built, order_built, output_built, query_built, is_none, expr_is_built, tree_is_built, IsBuilt}
 use Rattle.jp_naive.specs.Outputs.{output_is_built, outputs_at}
 use Rattle.jp_naive.specs.Tuples.{values_of}
 
@@ -109,8 +108,8 @@ module _ (tables : ℕ → List Row) where
 
 -- from the rows of the tree's tuples to the query's
 pub rows_mean : (tables : ℕ → List Row) (query : Query) (columns : List Output) (conds : List Expr) (found : List Env) (rows : List Row)
-    → QueryParts query → columns ≡ (out-Query query).columns → conds ≡ (out-Query query).conds → found ≡ (tuples_of tables (out-Query query).tree).tuples outermost
-    → rows ≡ map (outputs_at tables columns) (filter (holds (values_of tables conds)) found) → rows ≡ meaning tables query outermost
+    → QueryParts query → columns ≡ (out-Query query).columns → conds ≡ (out-Query query).conds → found ≡ (tuples_of tables (out-Query query).tree).tuples no_outer_rows
+    → rows ≡ map (outputs_at tables columns) (filter (holds (values_of tables conds)) found) → rows ≡ meaning tables query no_outer_rows
 rows_mean tables query columns conds found rows parts c d f r =
     r ∙ ap₂ (λ (cs : List Output) (es : List Env). map (outputs_at tables cs) es) c (ap₂ (λ (ds : List Expr) (es : List Env). filter (holds (values_of tables ds)) es) d f)
-    ∙ sym (plain_meaning tables query outermost parts)
+    ∙ sym (plain_meaning tables query no_outer_rows parts)

@@ -10,8 +10,7 @@ use Rattle.jp_query.specs.declared.Output.{Output}
 use Rattle.jp_query.specs.declared.Query.{Query}
 use Rattle.jp_query.specs.declared.Expr.TheOpen.{Expr-F}
 use Rattle.jp_query.specs.Conditions.{all_true}
-use Rattle.jp_eval.specs.Evaluable.{evaluable_level, is_evaluable, IsEvaluable}
-use Rattle.jp_naive.specs.Built.{tree_built, order_built, output_built, query_built, expr_is_built, tree_is_built, query_is_built}
+use Rattle.jp_query.specs.Evaluable.{evaluable_level, is_evaluable, IsEvaluable, tree_built, order_built, output_built, query_built, expr_is_built, tree_is_built, query_is_built}
 
 abbrev Same : Expr → Type 0
 Same e = expr_is_built e ≡ is_evaluable e

@@ -12,11 +12,11 @@ use Rattle.jp_query.specs.declared.Expr.{Expr}
 use Rattle.jp_query.specs.declared.Expr.TheOpen.{JoinTree-F}
 use Rattle.jp_query.specs.declared.JoinTree.{JoinTree}
 use Rattle.jp_query.specs.Conditions.{all_true}
-use Rattle.jp_query.specs.Meaning.{Env, Tuples, with_rows, pairs, with_member}
+use Rattle.jp_query.specs.Meaning.{Env, Tuples, with_rows, pairs, with_member, no_outer_rows}
 use Rattle.jp_query.specs.Typing.{Typed, TypedOutput, TypedQuery, are_conditions, expr_type, tree_typed, order_typed, output_typed, query_typed, tree_is_typed, type_of}
 use Rattle.jp_query.proofs.FoldLaws as laws
-use Rattle.jp_eval.specs.Evaluable.{evaluable_level}
-use Rattle.jp_naive.specs.Built.{TableRows, outermost, tree_built, order_built, output_built, query_built, expr_is_built, tree_is_built}
+use Rattle.jp_query.specs.Evaluable.{evaluable_level, tree_built, order_built, output_built, query_built, expr_is_built, tree_is_built}
+use Rattle.jp_query.specs.Tables.{TableRows}
 use Rattle.jp_naive.specs.Found.{Found}
 use Rattle.jp_naive.specs.Tuples.{envs_in, envs_of, is_joined, rels_of}
 use Rattle.jp_naive.specs.declared.tuple.Leaf.{Leaf}
@@ -110,7 +110,7 @@ first_member tables left right e l =
     let rights = envs_in tables right in
     let pairing = pairs [] (rels_of right.leaves) rights in
     sym (ap₂ (λ (leaves : List Leaf) (list : List (List (Option ℕ))). flat_map pairing (envs_of tables leaves list)) e l
-    ∙ append-nil (pairing outermost) ∙ every_kept (map (with_rows (rels_of right.leaves) outermost) rights) ∙ tuples_alone tables right.leaves right.list)
+    ∙ append-nil (pairing no_outer_rows) ∙ every_kept (map (with_rows (rels_of right.leaves) no_outer_rows) rights) ∙ tuples_alone tables right.leaves right.list)
 
 -- ---- the conditions, from those on the parts
 

@@ -8,14 +8,13 @@ use Rattle.std.proofs.lemmas.Nat.Bits.{bit_at-zero, bit_at-lt, bit_at_or, bit_at
 use Rattle.std.specs.Int.{bit_at}
 use Rattle.jp_base.specs.Sets.{Has}
 use Rattle.jp_base.proofs.SetLemmas.{has_or, same_set}
-use Rattle.jp_query.specs.Meaning.{Row, Env, has, with_row, with_rows, without}
+use Rattle.jp_query.specs.Meaning.{Row, Env, has, with_row, with_rows, without, no_outer_rows}
 use Rattle.jp_query.specs.Refs.{only}
 use Rattle.std.specs.List.{slice_index_or}
-use Rattle.jp_query.specs.Scopes.{rows_of_tables}
-use Rattle.jp_naive.specs.Built.{TableRows, outermost}
+use Rattle.jp_query.specs.Tables.{rows_of_tables, TableRows}
 use Rattle.jp_naive.specs.Tuples.{row_at, row_in, env_of, envs_of, envs_in, rels_of, absent}
 use Rattle.jp_naive.specs.Found.{Found, added}
-use Rattle.jp_naive.specs.declared.env.Place.{Place}
+use Rattle.jp_naive.specs.declared.env.RowId.{RowId}
 use Rattle.jp_naive.specs.declared.tuple.Leaf.{Leaf}
 
 -- ---- sets of relations
@@ -95,7 +94,7 @@ module _ (tables : TableRows) where
       ∙ ap (with_rows (rels_of rights) (env_of tables lefts l)) (fun_ext (absent_at rights))
 
   -- a tuple changes no other relation
-  own_rows : (leaves : List Leaf) (rows : List (Option ℕ)) (n : ℕ) → env_of tables leaves rows n ≡ with_rows (rels_of leaves) outermost (env_of tables leaves rows) n
+  own_rows : (leaves : List Leaf) (rows : List (Option ℕ)) (n : ℕ) → env_of tables leaves rows n ≡ with_rows (rels_of leaves) no_outer_rows (env_of tables leaves rows) n
   own_rows [] rows n = ap (λ (b : Bool). if b then None else None) (sym (has_none n))
   own_rows (leaf ∷ leaves) [] n = elim (cases_Bool (has (rels_of (leaf ∷ leaves)) n)) [
     | inl h ↦ ap (λ (b : Bool). if b then None else None) (sym h)
@@ -107,12 +106,12 @@ module _ (tables : TableRows) where
       ∙ turned (n == leaf.rel) (has (rels_of leaves) n) there (env_of tables leaves rows n) None
       ∙ ap (λ (b : Bool). if b then (if n == leaf.rel then there else env_of tables leaves rows n) else None) (sym (has_more leaf.rel (rels_of leaves) n))
 
-  pub tuples_alone : (leaves : List Leaf) (list : List (List (Option ℕ))) → map (with_rows (rels_of leaves) outermost) (envs_of tables leaves list) ≡ envs_of tables leaves list
+  pub tuples_alone : (leaves : List Leaf) (list : List (List (Option ℕ))) → map (with_rows (rels_of leaves) no_outer_rows) (envs_of tables leaves list) ≡ envs_of tables leaves list
   tuples_alone leaves [] = refl
   tuples_alone leaves (rows ∷ list) = ap₂ (λ (e : Env) (es : List Env). e ∷ es) (sym (fun_ext (own_rows leaves rows))) (tuples_alone leaves list)
 
-  -- one leaf is the outermost environment with its row
-  pub one_row : (leaf : Leaf) (row : ℕ) → env_of tables (leaf ∷ []) (Some row ∷ []) ≡ with_row outermost leaf.rel (slice_index_or (rows_of_tables tables leaf.table) row [])
+  -- one leaf is the no_outer_rows environment with its row
+  pub one_row : (leaf : Leaf) (row : ℕ) → env_of tables (leaf ∷ []) (Some row ∷ []) ≡ with_row no_outer_rows leaf.rel (slice_index_or (rows_of_tables tables leaf.table) row [])
   one_row leaf row = refl
 
   -- ---- the search for a leaf
@@ -156,24 +155,24 @@ module _ (tables : TableRows) where
 
   -- ---- the relations that have a row
 
-  none_some : IsSome {T = Place} None → ⊥
+  none_some : IsSome {T = RowId} None → ⊥
   none_some h = absurd (false≢true h)
 
-  is_there : (place : Place) → IsSome (Some place)
+  is_there : (place : RowId) → IsSome (Some place)
   is_there place = refl
 
   row_there : (row : Row) → IsSome (Some row)
   row_there row = refl
 
-  some_in : (place : Option Place) (o : Option Row) → row_in tables place ≡ o → IsSome place → IsSome o
+  some_in : (place : Option RowId) (o : Option Row) → row_in tables place ≡ o → IsSome place → IsSome o
   some_in None o e h = absurd (none_some h)
   some_in (Some place) o e h = subst IsSome e (row_there (slice_index_or (rows_of_tables tables place.table) place.row []))
 
-  some_back : (place : Option Place) (o : Option Row) → row_in tables place ≡ o → IsSome o → IsSome place
+  some_back : (place : Option RowId) (o : Option Row) → row_in tables place ≡ o → IsSome o → IsSome place
   some_back None o e h = subst IsSome (sym e) h
   some_back (Some place) o e h = is_there place
 
-  pub present_more : (env : Env) (rel set new : ℕ) (place : Option Place) → row_in tables place ≡ env rel → ((i : ℕ) → Has set i ↔ ((i < rel) × IsSome (env i)))
+  pub present_more : (env : Env) (rel set new : ℕ) (place : Option RowId) → row_in tables place ≡ env rel → ((i : ℕ) → Has set i ↔ ((i < rel) × IsSome (env i)))
       → ((i : ℕ) → Has new i ↔ (Has set i ⊎ ((i ≡ rel) × IsSome place))) → (i : ℕ) → Has new i ↔ ((i < rel + 1) × IsSome (env i))
   present_more env rel set new place e inv more i = (to, from)
     where

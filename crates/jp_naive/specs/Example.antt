@@ -5,7 +5,7 @@ use Rattle.jp_query.specs.declared.Query.{Query}
 use Rattle.jp_query.specs.Meaning.{Row}
 use Rattle.jp_query.specs.TreeExamples.{one, equals, a, select}
 use Rattle.jp_table.specs.Rows.{IsRowOf}
-use Rattle.jp_naive.specs.Built.{TableRows}
+use Rattle.jp_query.specs.Tables.{TableRows}
 
 -- SELECT 1 FROM a WHERE 1 = 1
 abbrev pub ones : Query

@@ -3,7 +3,7 @@ use Rattle.std.specs.Prelude.{ℕ, Bool, List, map}
 use Rattle.jp_base.specs.declared.values.Value.{Value}
 use Rattle.jp_query.specs.declared.Output.{Output, out-Output}
 use Rattle.jp_query.specs.Meaning.{Row, Env, value_of}
-use Rattle.jp_naive.specs.Built.{expr_is_built}
+use Rattle.jp_query.specs.Evaluable.{expr_is_built}
 
 abbrev pub output_is_built : Output → Bool
 output_is_built output = expr_is_built (out-Output output).expr

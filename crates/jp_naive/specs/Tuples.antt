@@ -6,19 +6,18 @@ use Rattle.jp_query.specs.Refs.{only}
 use Rattle.jp_query.specs.declared.Expr.{Expr}
 use Rattle.jp_query.specs.declared.JoinKind.{JoinKind}
 use Rattle.jp_query.specs.declared.JoinKind.TheVariants as join
-use Rattle.jp_query.specs.Scopes.{rows_of_tables}
-use Rattle.jp_naive.specs.Built.{TableRows}
+use Rattle.jp_query.specs.Tables.{rows_of_tables, TableRows}
 use Rattle.jp_naive.specs.Found.{Found}
-use Rattle.jp_naive.specs.declared.env.Place.{Place}
+use Rattle.jp_naive.specs.declared.env.RowId.{RowId}
 use Rattle.jp_naive.specs.declared.tuple.Leaf.{Leaf}
 
 abbrev pub row_at : TableRows → ℕ → Option ℕ → Option Row
 row_at tables table None = None
 row_at tables table (Some row) = Some (slice_index_or (rows_of_tables tables table) row [])
 
-abbrev pub row_in : TableRows → Option Place → Option Row
+abbrev pub row_in : TableRows → Option RowId → Option Row
 row_in tables None = None
-row_in tables (Some place) = row_at tables place.table (Some place.row)
+row_in tables (Some id) = row_at tables id.table (Some id.row)
 
 -- a relation has the row of its leaf, the first of its number, and no row where it has no leaf
 abbrev pub env_of : TableRows → List Leaf → List (Option ℕ) → Env

@@ -3,8 +3,8 @@ ghost use Rattle.std.specs.List.{list_all};
 ghost use Rattle.jp_base.specs.Cells.{value_of_cell};
 ghost use Rattle.jp_base.specs.Sets.{Has};
 ghost use Rattle.jp_query.specs.Meaning.{cell_in, holds as all_hold};
-ghost use Rattle.jp_query.specs.Scopes.{rows_of_tables};
-ghost use Rattle.jp_naive.specs.Built.{TableRows, expr_is_built};
+ghost use Rattle.jp_query.specs.Tables.{rows_of_tables, TableRows};
+ghost use Rattle.jp_query.specs.Evaluable.{expr_is_built};
 ghost use Rattle.jp_naive.specs.Tuples.{env_of, row_at, row_in, values_of};
 
 use crate::tuple::Tuple;
@@ -13,9 +13,9 @@ use jp_eval::{Env, holds};
 use jp_query::Expr;
 use jp_table::Tables;
 
-/// A row of a table, by the table's place in the catalogue and its own number in the file, both from 0.
+/// Which row of which table: the table's place in the catalogue and the row's number in the file, both from 0.
 #[derive(Clone, Copy)]
-pub struct Place {
+pub struct RowId {
     pub table: u32,
     pub row: u64,
 }
@@ -36,8 +36,8 @@ impl Env for TupleEnv<'_> {
     ghost sublink_rows = { λ s sub. [] };
 
     fn cell(&self, rel: RelNo, col: u32) -> Cell<'_> {
-        match place_of(self.tuple, rel) {
-            Some(place) => cell_at(self.tables, place, col),
+        match row_id_of(self.tuple, rel) {
+            Some(id) => cell_at(self.tables, id, col),
             None => Cell::Null,
         }
     }
@@ -51,23 +51,23 @@ impl Env for TupleEnv<'_> {
     }
 }
 
-/// The place of a relation's row: that of its first leaf, and None where it is absent.
-fn place_of(tuple: Tuple<'_>, rel: RelNo) -> Option<Place>
+/// Which row a relation has: that of its first leaf, and None where it is absent.
+fn row_id_of(tuple: Tuple<'_>, rel: RelNo) -> Option<RowId>
     ensures { (tables : TableRows) → row_in tables result ≡ env_of tables tuple.entry.leaves.now tuple.entry.rows.now rel }
 {
     for at in 0..tuple.leaves.len().min(tuple.rows.len()) {
         if tuple.leaves[at].rel == rel {
-            return place_in(tuple.leaves[at].table, tuple.rows[at]);
+            return row_id(tuple.leaves[at].table, tuple.rows[at]);
         }
     }
     None
 }
 
-fn place_in(table: u32, row: Option<u64>) -> Option<Place>
+fn row_id(table: u32, row: Option<u64>) -> Option<RowId>
     ensures { (tables : TableRows) → row_in tables result ≡ row_at tables table row }
 {
     match row {
-        Some(row) => Some(Place { table, row }),
+        Some(row) => Some(RowId { table, row }),
         None => None,
     }
 }
@@ -78,30 +78,30 @@ fn relations(tuple: Tuple<'_>) -> RelSet
 {
     let mut present = RelSet::empty();
     for rel in 0..64 {
-        present = with_relation(present, rel, place_of(tuple, rel));
+        present = with_relation(present, rel, row_id_of(tuple, rel));
     }
     present
 }
 
-/// The set, and the relation beside if it has a place.
-fn with_relation(set: RelSet, rel: RelNo, place: Option<Place>) -> RelSet
+/// The set, and the relation beside if it has a row.
+fn with_relation(set: RelSet, rel: RelNo, id: Option<RowId>) -> RelSet
     requires { rel < 64 }
-    ensures { (i : ℕ) → Has result i ↔ (Has set i ⊎ ((i ≡ rel) × IsSome place)) }
+    ensures { (i : ℕ) → Has result i ↔ (Has set i ⊎ ((i ≡ rel) × IsSome id)) }
 {
-    match place {
+    match id {
         Some(_) => set.union(RelSet::one(rel)),
         None => set,
     }
 }
 
 /// The cell of a table's row and a column. It is NULL where there is no such table, row or column.
-fn cell_at(tables: &Tables, place: Place, col: u32) -> Cell<'_>
-    ensures { value_of_cell result ≡ cell_in (row_in tables.now.list (Some place)) col }
+fn cell_at(tables: &Tables, id: RowId, col: u32) -> Cell<'_>
+    ensures { value_of_cell result ≡ cell_in (row_in tables.now.list (Some id)) col }
 {
-    match tables.list.get(place.table as usize) {
+    match tables.list.get(id.table as usize) {
         Some(Some(table)) => {
-            if place.row < table.rows() && (col as usize) < table.width() {
-                table.cell(place.row, col)
+            if id.row < table.rows() && (col as usize) < table.width() {
+                table.cell(id.row, col)
             } else {
                 Cell::Null
             }

@@ -1,10 +1,9 @@
 ghost use Rattle.std.specs.Prelude.{◌≡◌, ◌++◌, ◌∷◌, [], IfOk, OnOk, bit_or, filter, length, map, true};
 ghost use Rattle.std.specs.List.{flat_map, list_all};
 ghost use Rattle.jp_query.specs.Joins.{join_rels};
-ghost use Rattle.jp_query.specs.Meaning.{holds, join_tuples, pairs, pairs_or_alone};
-ghost use Rattle.jp_query.specs.Meaning.{left_join as left_join_of};
-ghost use Rattle.jp_query.specs.Scopes.{rows_of_tables};
-ghost use Rattle.jp_naive.specs.Built.{expr_is_built};
+ghost use Rattle.jp_query.specs.Meaning.{holds, join_tuples, pairs, pairs_or_alone, left_join as left_join_of};
+ghost use Rattle.jp_query.specs.Tables.{rows_of_tables};
+ghost use Rattle.jp_query.specs.Evaluable.{expr_is_built};
 ghost use Rattle.jp_naive.specs.Tuples.{absent, env_of, envs_in, is_joined, rels_of, values_of};
 
 use crate::env::passes;

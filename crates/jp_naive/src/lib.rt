@@ -4,9 +4,9 @@
 
 ghost use Rattle.std.specs.Prelude.{◌≡◌, IfOk};
 ghost use Rattle.jp_query.specs.Freshness.{IsFresh};
-ghost use Rattle.jp_query.specs.Meaning.{meaning};
-ghost use Rattle.jp_query.specs.Scopes.{rows_of_tables};
-ghost use Rattle.jp_naive.specs.Built.{AllLoaded, IsBuilt, IsTypedOver, outermost};
+ghost use Rattle.jp_query.specs.Meaning.{meaning, no_outer_rows};
+ghost use Rattle.jp_query.specs.Tables.{rows_of_tables, AllLoaded, IsTypedOver};
+ghost use Rattle.jp_query.specs.Evaluable.{IsBuilt};
 
 mod env;
 mod joins;
@@ -31,7 +31,7 @@ pub fn meaning_of(alloc: Global, query: &Query, tables: &Tables) -> Result<Vec<R
     requires fresh { IsFresh query.now }
     requires loaded { AllLoaded tables.now.list query.now }
     requires built { IsBuilt query.now }
-    ensures { IfOk result (λ v. v.items ≡ meaning (rows_of_tables tables.now.list) query.now outermost) }
+    ensures { IfOk result (λ v. v.items ≡ meaning (rows_of_tables tables.now.list) query.now no_outer_rows) }
 {
     let all = tuples_of(alloc, &query.tree, tables)?;
     let conds = query.conds.as_slice();

@@ -1,8 +1,8 @@
 ghost use Rattle.std.specs.Prelude.{◌≡◌, ◌++◌, ◌∷◌, [], IfOk, OnOk, filter, map, true};
 ghost use Rattle.std.specs.List.{list_all};
 ghost use Rattle.jp_query.specs.Meaning.{holds};
-ghost use Rattle.jp_query.specs.Scopes.{rows_of_tables};
-ghost use Rattle.jp_naive.specs.Built.{expr_is_built};
+ghost use Rattle.jp_query.specs.Tables.{rows_of_tables};
+ghost use Rattle.jp_query.specs.Evaluable.{expr_is_built};
 ghost use Rattle.jp_naive.specs.Outputs.{outputs_at, output_is_built};
 ghost use Rattle.jp_naive.specs.Tuples.{env_of, envs_in, values_of};
 

@@ -2,7 +2,7 @@ ghost use Rattle.std.specs.Prelude.{◌≡◌, ◌<◌, ◌∷◌, [], IfOk, tru
 ghost use Rattle.std.specs.List.{list_all};
 ghost use Rattle.jp_base.specs.declared.values.Ty.TheVariants as ty;
 ghost use Rattle.jp_query.specs.Typing.{are_conditions, tree_is_typed, type_of};
-ghost use Rattle.jp_naive.specs.Built.{expr_is_built, tree_is_built};
+ghost use Rattle.jp_query.specs.Evaluable.{expr_is_built, tree_is_built};
 ghost use Rattle.jp_catalog.specs.Sound.{IsSound};
 ghost use Rattle.jp_naive.specs.Example.{HasFittingRows, IsOneTable, ones as ones_of};
 ghost use Rattle.jp_naive.specs.Tuples.{is_joined};

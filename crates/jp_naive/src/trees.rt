@@ -1,11 +1,10 @@
 ghost use Rattle.std.specs.Prelude.{◌≡◌, ◌∷◌, [], IfOk, bit_or, length, map, true};
 ghost use Rattle.std.specs.List.{flat_map, list_all};
-ghost use Rattle.jp_query.specs.Meaning.{with_row, combined, pairs, rels_in};
-ghost use Rattle.jp_query.specs.Meaning.{tuples_of as meant};
+ghost use Rattle.jp_query.specs.Meaning.{with_row, combined, pairs, rels_in, tuples_of as meant, no_outer_rows};
 ghost use Rattle.jp_query.specs.Refs.{only, union};
-ghost use Rattle.jp_query.specs.Scopes.{rows_of_tables};
+ghost use Rattle.jp_query.specs.Tables.{rows_of_tables};
 ghost use Rattle.jp_query.specs.Typing.{tree_is_typed};
-ghost use Rattle.jp_naive.specs.Built.{outermost, tree_is_built};
+ghost use Rattle.jp_query.specs.Evaluable.{tree_is_built};
 ghost use Rattle.jp_naive.specs.Tuples.{envs_in, rels_of};
 
 use crate::joins::{filtered, join};
@@ -21,7 +20,7 @@ pub fn tuples_of(alloc: Global, tree: &JoinTree, tables: &Tables) -> Result<Tupl
     requires built { tree_is_built tree.now ≡ true }
     requires typed { tree_is_typed tree.now ≡ true }
     ensures rels { IfOk result (λ t. rels_of t.leaves ≡ (meant (rows_of_tables tables.now.list) tree.now).rels) }
-    ensures tuples { IfOk result (λ t. envs_in tables.now.list t ≡ (meant (rows_of_tables tables.now.list) tree.now).tuples outermost) }
+    ensures tuples { IfOk result (λ t. envs_in tables.now.list t ≡ (meant (rows_of_tables tables.now.list) tree.now).tuples no_outer_rows) }
 {
     match tree {
         JoinTree::Base { rel, table, .. } => {
@@ -54,7 +53,7 @@ fn combinations(alloc: Global, members: &[JoinTree], tables: &Tables) -> Result<
     requires built { list_all tree_is_built members.now ≡ true }
     requires typed { list_all tree_is_typed members.now ≡ true }
     ensures rels { IfOk result (λ t. rels_of t.leaves ≡ union (map rels_in (map (meant (rows_of_tables tables.now.list)) members.now))) }
-    ensures tuples { IfOk result (λ t. envs_in tables.now.list t ≡ combined (map (meant (rows_of_tables tables.now.list)) members.now) outermost) }
+    ensures tuples { IfOk result (λ t. envs_in tables.now.list t ≡ combined (map (meant (rows_of_tables tables.now.list)) members.now) no_outer_rows) }
 {
     let mut all = alone(alloc)?;
     for member in members {
@@ -93,7 +92,7 @@ fn alone(alloc: Global) -> Result<Tuples, Memory>
 /// The rows of a table in turn, in file order, as tuples of one leaf.
 fn base_tuples(alloc: Global, rel: RelNo, table: u32, tables: &Tables) -> Result<Tuples, Memory>
     ensures leaves { IfOk result (λ t. rels_of t.leaves ≡ only rel) }
-    ensures tuples { IfOk result (λ t. envs_in tables.now.list t ≡ map (with_row outermost rel) (rows_of_tables tables.now.list table)) }
+    ensures tuples { IfOk result (λ t. envs_in tables.now.list t ≡ map (with_row no_outer_rows rel) (rows_of_tables tables.now.list table)) }
 {
     let mut list = Tuples::new(alloc, one_leaf(alloc, Leaf { rel, table })?);
     for row in 0..row_count(tables, table) {

@@ -15,24 +15,23 @@ use jp_query::Expr;
 use sqlite_items::Boxed;
 use std::alloc::Global;
 
-/// Whether a placeholder for the relations `place` is NULL for want of them, where those of `present` have rows: no
-/// member of `place` is present. Else it has its expression's value, which may be NULL too.
-pub fn value_is_null(place: RelSet, present: RelSet) -> bool
-    ensures members { IsTrue result ↔ ¬ Meets place present }
-    ensures placeholder { (env : Env) → IsPresentSet present env → result ≡ not (any_present place env) }
+/// Whether a placeholder for the relations `rels` is NULL for want of them, where those of `present` have rows: no
+/// member of `rels` is present. Else it has its expression's value, which may be NULL too.
+pub fn value_is_null(rels: RelSet, present: RelSet) -> bool
+    ensures members { IsTrue result ↔ ¬ Meets rels present }
+    ensures placeholder { (env : Env) → IsPresentSet present env → result ≡ not (any_present rels env) }
 {
-    let there = place.minus(place.minus(present));
-    there.first().is_none()
+    !rels.meets(present)
 }
 
 /// The placeholder of `expr` for the relations `rels`, which has that expression inside, not a copy.
 pub fn wrap(alloc: Global, expr: Expr, rels: RelSet) -> Result<Expr, Memory>
-    ensures node { IfOk result (λ place. place ≡ Expr.Place expr rels) }
+    ensures node { IfOk result (λ placeholder. placeholder ≡ Expr.Place expr rels) }
     // where none of the relations is present it is NULL, elsewhere the expression's value
-    ensures in_place { (tables : ℕ → List Row) (env : Env) → IfOk result (λ place.
-        value_of tables place env ≡ (if any_present rels env then value_of tables expr env else value.Null)) }
-    ensures given { (rows : ℕ → List Row) (env : Env) → IfOk result (λ place.
-        value_given rows place env ≡ (if any_present rels env then value_given rows expr env else value.Null)) }
+    ensures in_place { (tables : ℕ → List Row) (env : Env) → IfOk result (λ placeholder.
+        value_of tables placeholder env ≡ (if any_present rels env then value_of tables expr env else value.Null)) }
+    ensures given { (rows : ℕ → List Row) (env : Env) → IfOk result (λ placeholder.
+        value_given rows placeholder env ≡ (if any_present rels env then value_given rows expr env else value.Null)) }
 {
     match Boxed::new(alloc, expr) {
         Ok(inner) => Ok(Expr::Place(inner, rels)),

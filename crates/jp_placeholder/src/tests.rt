@@ -5,9 +5,9 @@ use std::test::Fail;
 
 #[test]
 fn one_present_relation_is_enough(rt: HostRuntime) {
-    let place = RelSet::one(1).union(RelSet::one(2));
-    assert!(rt; !value_is_null(place, RelSet::one(2).union(RelSet::one(3))));
-    assert!(rt; value_is_null(place, RelSet::one(3)));
+    let rels = RelSet::one(1).union(RelSet::one(2));
+    assert!(rt; !value_is_null(rels, RelSet::one(2).union(RelSet::one(3))));
+    assert!(rt; value_is_null(rels, RelSet::one(3)));
 }
 
 #[test]

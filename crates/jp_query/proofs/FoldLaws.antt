@@ -10,7 +10,7 @@ use Rattle.jp_query.specs.declared.JoinKind.{JoinKind}
 use Rattle.jp_query.specs.declared.Expr.TheVariants as expr
 use Rattle.jp_query.specs.declared.JoinTree.TheVariants as tree
 use Rattle.jp_query.specs.declared.Expr.TheShapes.{former-Expr-Case-0}
-use Rattle.jp_query.specs.declared.Expr.TheFolds.{fold-roll-Expr, fold-roll-JoinTree, fold-roll-Order, fold-roll-Output, fold-roll-Query, fold_out-Order, fold_out-Output, fold_out-Query}
+use Rattle.jp_query.specs.declared.Expr.TheFolds.{fold-roll-Expr, fold-roll-JoinTree, fold_out-Order, fold_out-Output, fold_out-Query}
 use Rattle.jp_query.specs.declared.Order.{out-Order}
 use Rattle.jp_query.specs.declared.Output.{out-Output}
 use Rattle.jp_query.specs.declared.Query.{out-Query}

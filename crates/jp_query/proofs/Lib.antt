@@ -1,5 +1,7 @@
+pub mod EqualityRules
 pub mod FoldLaws
 pub mod InLaw
+pub mod PresentLaws
 pub mod RefsLaws
 pub mod RelsLaw
 pub mod SetWords

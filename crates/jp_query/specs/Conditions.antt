@@ -1,32 +1,34 @@
--- Which queries are typed, bounded and fresh. Each condition is a part with a name.
-use Rattle.std.specs.Prelude.{ℕ, ◌≡◌, ◌<◌, ◌≤◌, ◌+◌, ◌-◌, ◌^◌, ◌==◌, ◌&&◌, ◌||◌, ⊤, Bool, true, false, not, nat_lt, nat_le, bit_and, bit_or, count_ones, length, List, [], ◌∷◌, ◌++◌, map, fold, All, Contains, Option, Some, None}
+-- Which queries are typed and bounded. Each condition is a part with a name.
+use Rattle.std.specs.Prelude.{ℕ, ◌≡◌, ◌<◌, ◌≤◌, ◌+◌, ◌-◌, ◌^◌, ◌==◌, ◌&&◌, ◌||◌, Bool, true, false, not, nat_le, bit_and, count_ones, length, List, [], ◌∷◌, ◌++◌, map, fold, All, Option, Some, None}
 use Rattle.std.specs.List.{list_all, list_any}
 use Rattle.jp_base.specs.declared.values.Ty.{Ty}
-use Rattle.jp_query.specs.declared.Expr.TheVariants as expr
-use Rattle.jp_query.specs.declared.Expr.TheFolds.{map-Expr, map-JoinTree, para-Query}
-use Rattle.jp_query.specs.Layers.{Expr, JoinTree, Order, Output, Query, Expr-F, JoinTree-F, Order-F, Output-F, Query-F, fold-Expr, fold-JoinTree, fold-Query}
-use Rattle.jp_query.specs.Parts.{all_in, parts, sublink_query, trees, conditions, leaf_query, option_part, ColumnRef, column_of, placeholder_of, leaves_in, base_leaves_in, tables_in, placeholders_in_query}
+use Rattle.jp_query.specs.declared.Expr.TheFolds.{map-Expr, map-JoinTree}
+use Rattle.jp_query.specs.Layers.{Expr, JoinTree, Query, Expr-F, JoinTree-F, Order-F, Output-F, Query-F, fold-Expr, fold-JoinTree, fold-Query}
+use Rattle.jp_query.specs.Parts.{parts, sublink_query, trees, conditions, leaf_query, option_part, ColumnRef, node_column, node_placeholder, base_leaves_in, tables_in}
 use Rattle.jp_query.specs.Refs.{only, union}
-use Rattle.jp_query.specs.Scopes.{Column, Schema, Entry, Scope, BoundIn, EntriesIn, ColumnIn, ColumnsIn, columns_of, column_at, expr_bound, tree_entries, output_column, query_columns}
+use Rattle.jp_query.specs.Scopes.{Column, Schema, Entry, Scope, BoundIn, EntriesIn, ColumnIn, ColumnsIn, visible_column, expr_bound, tree_entries}
 use Rattle.jp_query.specs.Typing.{same_type, is_listed, typed_query, is_true_test}
 
 -- ---- what holds at each place of a query, where its scope is what is visible there
 
--- ON sees the relations of its join's two sides, the other expressions of a select those that its tree's tuples give rows
--- to, and both see those of the outer levels. A sub-select in FROM sees the outer levels alone.
+-- what is asked of a column reference and of a placeholder's relations in the scope where they stand, of the scope itself
+-- in which expressions stand, and of each expression's bound
 pub record Tests : Type 0 where
   pub column : Scope → ColumnRef → Bool
   pub placeholder : Scope → ℕ → Bool
-  pub place : Scope → Bool
+  pub scope : Scope → Bool
   pub bound : ℕ → Bool
 
+-- A part's bound, entries or columns, and whether it and all that stands in it pass, by the scope in which it stands. ON
+-- sees the relations of its join's two sides, the other expressions of a select those that its tree's tuples give rows to,
+-- and both see those of the outer levels. A sub-select in FROM sees the outer levels alone.
 pub record Judged (A : Type 0) : Type 0 where
   pub value : Scope → A
   pub passes : Scope → Bool
 
 module _ {A : Type 0} where
-  abbrev pub value_in : Judged A → Scope → A
-  value_in judged = judged.value
+  abbrev pub judged_value : Judged A → Scope → A
+  judged_value judged = judged.value
 
   abbrev pub passes_in : Scope → Judged A → Bool
   passes_in scope judged = judged.passes scope
@@ -47,30 +49,30 @@ abbrev pub QueryLevel : Type 0
 QueryLevel = Query-F (Judged ℕ) (Judged (List Entry)) (Judged ℕ) (Judged Column) (Judged (List Column))
 
 -- the bound of an expression, from those of its parts
-abbrev pub bound_at : ExprLevel → BoundIn
-bound_at x = expr_bound (map-Expr (Judged ℕ) (Judged (List Entry)) (Judged ℕ) (Judged Column) (Judged (List Column)) BoundIn EntriesIn BoundIn ColumnIn ColumnsIn value_in value_in value_in value_in value_in x)
+abbrev pub judged_bound : ExprLevel → BoundIn
+judged_bound x = expr_bound (map-Expr (Judged ℕ) (Judged (List Entry)) (Judged ℕ) (Judged Column) (Judged (List Column)) BoundIn EntriesIn BoundIn ColumnIn ColumnsIn judged_value judged_value judged_value judged_value judged_value x)
 
-abbrev pub entries_at : Schema → TreeLevel → EntriesIn
-entries_at schema t = tree_entries schema (map-JoinTree (Judged ℕ) (Judged (List Entry)) (Judged ℕ) (Judged Column) (Judged (List Column)) BoundIn EntriesIn BoundIn ColumnIn ColumnsIn value_in value_in value_in value_in value_in t)
+abbrev pub judged_entries : Schema → TreeLevel → EntriesIn
+judged_entries schema t = tree_entries schema (map-JoinTree (Judged ℕ) (Judged (List Entry)) (Judged ℕ) (Judged Column) (Judged (List Column)) BoundIn EntriesIn BoundIn ColumnIn ColumnsIn judged_value judged_value judged_value judged_value judged_value t)
 
 -- the relations that the ON list or the condition list of a tree sees
-abbrev pub entries_of_all : List (Judged (List Entry)) → Scope → List Entry
-entries_of_all [] scope = []
-entries_of_all (tree ∷ more) scope = tree.value scope ++ entries_of_all more scope
+abbrev pub all_entries : List (Judged (List Entry)) → Scope → List Entry
+all_entries [] scope = []
+all_entries (tree ∷ more) scope = tree.value scope ++ all_entries more scope
 
 module _ (schema : Schema) (tests : Tests) where
   abbrev pub expr_judged : ExprLevel → Judged ℕ
   expr_judged x = record {
-    value = bound_at x;
-    passes = λ scope. tests.bound (bound_at x scope) && (list_all (tests.column scope) (column_of x) && (list_all (tests.placeholder scope) (placeholder_of x)
+    value = judged_bound x;
+    passes = λ scope. tests.bound (judged_bound x scope) && (list_all (tests.column scope) (node_column x) && (list_all (tests.placeholder scope) (node_placeholder x)
         && (list_all (passes_in scope) (parts x) && list_all (passes_in scope) (option_part (sublink_query x)))));
   }
 
   abbrev pub tree_passes : TreeLevel → Scope → Scope → Bool
-  tree_passes t scope inner = tests.place inner && (list_all (passes_in inner) (conditions t) && (list_all (passes_in scope) (trees t) && list_all (passes_in scope) (option_part (leaf_query t))))
+  tree_passes t scope inner = tests.scope inner && (list_all (passes_in inner) (conditions t) && (list_all (passes_in scope) (trees t) && list_all (passes_in scope) (option_part (leaf_query t))))
 
   abbrev pub tree_judged : TreeLevel → Judged (List Entry)
-  tree_judged t = record { value = entries_at schema t; passes = λ scope. tree_passes t scope (entries_of_all (trees t) scope ++ scope) }
+  tree_judged t = record { value = judged_entries schema t; passes = λ scope. tree_passes t scope (all_entries (trees t) scope ++ scope) }
 
   abbrev pub order_judged : OrderLevel → Judged ℕ
   order_judged order = order.expr
@@ -79,26 +81,29 @@ module _ (schema : Schema) (tests : Tests) where
   output_judged output = record { value = λ scope. record { type = output.ty; bound = output.expr.value scope }; passes = output.expr.passes }
 
   abbrev pub query_passes : QueryLevel → Scope → Bool
-  query_passes q inner = tests.place inner && (list_all (passes_in inner) q.columns && (list_all (passes_in inner) q.conds && list_all (passes_in inner) q.order))
+  query_passes q inner = tests.scope inner && (list_all (passes_in inner) q.columns && (list_all (passes_in inner) q.conds && list_all (passes_in inner) q.order))
 
-  abbrev pub columns_at : QueryLevel → Scope → List Column
-  columns_at q inner = map (λ (c : Judged Column). c.value inner) q.columns
+  abbrev pub judged_columns : QueryLevel → Scope → List Column
+  judged_columns q inner = map (λ (c : Judged Column). c.value inner) q.columns
 
   abbrev pub query_judged : QueryLevel → Judged (List Column)
   query_judged q = record {
-    value = λ scope. columns_at q (q.tree.value scope ++ scope);
+    value = λ scope. judged_columns q (q.tree.value scope ++ scope);
     passes = λ scope. q.tree.passes scope && query_passes q (q.tree.value scope ++ scope);
   }
 
   abbrev pub judged_expr : Expr → Judged ℕ
   judged_expr = fold-Expr (Judged ℕ) (Judged (List Entry)) (Judged ℕ) (Judged Column) (Judged (List Column)) expr_judged tree_judged order_judged output_judged query_judged
 
+  abbrev pub judged_tree : JoinTree → Judged (List Entry)
+  judged_tree = fold-JoinTree (Judged ℕ) (Judged (List Entry)) (Judged ℕ) (Judged Column) (Judged (List Column)) expr_judged tree_judged order_judged output_judged query_judged
+
   abbrev pub judged_query : Query → Judged (List Column)
   judged_query = fold-Query (Judged ℕ) (Judged (List Entry)) (Judged ℕ) (Judged Column) (Judged (List Column)) expr_judged tree_judged order_judged output_judged query_judged
 
--- every column, placeholder, place and bound passes
+-- every column, placeholder, scope and bound passes
 abbrev pub all_pass : Tests
-all_pass = record { column = λ scope c. true; placeholder = λ scope rels. true; place = λ scope. true; bound = λ n. true }
+all_pass = record { column = λ scope c. true; placeholder = λ scope rels. true; scope = λ scope. true; bound = λ n. true }
 
 -- the column's relation is visible, and that column of it has the type
 abbrev pub has_type : Option Column → Ty → Bool
@@ -106,7 +111,7 @@ has_type (Some column) t = same_type column.type t
 has_type None t = false
 
 abbrev pub sees_column : Scope → ColumnRef → Bool
-sees_column scope c = has_type (column_at scope c.relation c.column) c.type
+sees_column scope c = has_type (visible_column scope c.relation c.column) c.type
 
 abbrev pub relation_of : Entry → ℕ
 relation_of entry = entry.relation
@@ -133,7 +138,7 @@ abbrev pub knows_placeholders : Tests
 knows_placeholders = record all_pass { placeholder = sees_relations }
 
 abbrev pub tells_relations_apart : Tests
-tells_relations_apart = record all_pass { place = has_distinct_numbers }
+tells_relations_apart = record all_pass { scope = has_distinct_numbers }
 
 abbrev pub keeps_bounds : Tests
 keeps_bounds = record all_pass { bound = fits }
@@ -196,8 +201,8 @@ output_leaves output = output.expr
 abbrev pub query_leaves : Query-F Leaves Leaves Leaves Leaves Leaves → Leaves
 query_leaves q = beside (beside (beside (together q.columns) q.tree) (together q.conds)) (together q.order)
 
-abbrev pub leaves_of : Query → Leaves
-leaves_of = fold-Query Leaves Leaves Leaves Leaves Leaves expr_leaves tree_leaves order_leaves output_leaves query_leaves
+abbrev pub judged_leaves : Query → Leaves
+judged_leaves = fold-Query Leaves Leaves Leaves Leaves Leaves expr_leaves tree_leaves order_leaves output_leaves query_leaves
 
 -- ---- each join tree, and each tree inside one, has at least one leaf
 
@@ -237,7 +242,7 @@ pub record IsTyped (schema : Schema) (outer : Scope) (query : Query) : Type 0 wh
   -- relations visible at one place have distinct numbers
   pub distinct : (judged_query schema tells_relations_apart query).passes outer ≡ true
   -- two leaves have one number only inside two sublinks of one number
-  pub apart : (leaves_of query).apart ≡ true
+  pub apart : (judged_leaves query).apart ≡ true
   -- each base leaf has the number of a table of the schema
   pub tables : All (λ table. table < length schema) (tables_in query)
   -- each join tree, and each tree inside one, has at least one leaf

@@ -1,5 +1,5 @@
 -- The meaning run on small inputs. Each query is written by the steps that its fold takes, level by level.
-use Rattle.std.specs.Prelude.{ℕ, pos, ◌==◌, if◌then◌else◌, Bool, true, false, List, [], ◌∷◌, Option, Some, None}
+use Rattle.std.specs.Prelude.{ℕ, pos, ◌==◌, if◌then◌else◌, Bool, true, false, List, [], ◌∷◌, Some, None}
 use Rattle.jp_base.specs.declared.values.Value.{Value}
 use Rattle.jp_base.specs.declared.values.Value.TheVariants as value
 use Rattle.jp_base.specs.declared.values.Ty.TheVariants as ty
@@ -7,7 +7,7 @@ use Rattle.jp_query.specs.declared.CmpOp.TheVariants as cmp
 use Rattle.jp_query.specs.declared.JoinKind.{JoinKind}
 use Rattle.jp_query.specs.declared.JoinKind.TheVariants as join
 use Rattle.jp_query.specs.Layers.{Expr-F, JoinTree-F}
-use Rattle.jp_query.specs.Meaning.{Row, Env, ValueIn, RowsIn, Tuples, SortKey, in_place, given, expr_value, tree_tuples, order_key, output_value, query_rows}
+use Rattle.jp_query.specs.Meaning.{Row, Env, no_outer_rows, ValueIn, RowsIn, Tuples, SortKey, in_place, given, expr_value, tree_tuples, order_key, output_value, query_rows}
 
 abbrev pub number : ℕ → Value
 number n = value.Num (pos n)
@@ -27,9 +27,6 @@ records_of_c = (null ∷ number 4 ∷ []) ∷ (number 1 ∷ number 9 ∷ []) ∷
 
 abbrev pub tables : ℕ → List Row
 tables table = if table == 0 then records_of_a else (if table == 1 then records_of_b else records_of_c)
-
-abbrev pub nowhere : Env
-nowhere rel = None
 
 -- ---- the constructors
 
@@ -85,7 +82,7 @@ a_id_is_b_aid = equal (column 0 0) (column 1 1) ∷ []
 
 -- SELECT a.id, b.id FROM a JOIN b ON a.id = b.aid, by the kind of join
 abbrev pub by_kind : JoinKind → List Row
-by_kind kind = select false a_id_b_id (joined kind a_id_is_b_aid) [] [] nowhere
+by_kind kind = select false a_id_b_id (joined kind a_id_is_b_aid) [] [] no_outer_rows
 
 -- the same in an environment that has a row for b
 abbrev pub outer_row : Env
@@ -95,7 +92,7 @@ abbrev pub left_join_inside : List Row
 left_join_inside = select false a_id_b_id (joined join.Left a_id_is_b_aid) [] [] outer_row
 
 abbrev pub combinations : List Row
-combinations = select false a_id_b_id all_pairs [] [] nowhere
+combinations = select false a_id_b_id all_pairs [] [] no_outer_rows
 
 -- SELECT aid FROM b
 abbrev pub aids : RowsIn
@@ -107,23 +104,23 @@ matches_of_a = select false (output (column 1 0) ∷ []) (base 1 1) a_id_is_b_ai
 
 -- SELECT id FROM a WHERE EXISTS (SELECT id FROM b WHERE aid = a.id)
 abbrev pub with_match : List Row
-with_match = select false (output (column 0 0) ∷ []) (base 0 0) (exists matches_of_a ∷ []) [] nowhere
+with_match = select false (output (column 0 0) ∷ []) (base 0 0) (exists matches_of_a ∷ []) [] no_outer_rows
 
 -- SELECT DISTINCT v FROM c
 abbrev pub distinct_values : List Row
-distinct_values = select true (output (column 2 0) ∷ []) (base 2 2) [] [] nowhere
+distinct_values = select true (output (column 2 0) ∷ []) (base 2 2) [] [] no_outer_rows
 
 -- SELECT DISTINCT v FROM c ORDER BY k
 abbrev pub distinct_by_key : List Row
-distinct_by_key = select true (output (column 2 0) ∷ []) (base 2 2) [] (item (column 2 1) false false ∷ []) nowhere
+distinct_by_key = select true (output (column 2 0) ∷ []) (base 2 2) [] (item (column 2 1) false false ∷ []) no_outer_rows
 
 -- SELECT v, k FROM c ORDER BY v, with or without DESC and NULLS FIRST
 abbrev pub by_value : Bool → Bool → List Row
-by_value desc nulls_first = select false (output (column 2 0) ∷ output (column 2 1) ∷ []) (base 2 2) [] (item (column 2 0) desc nulls_first ∷ []) nowhere
+by_value desc nulls_first = select false (output (column 2 0) ∷ output (column 2 1) ∷ []) (base 2 2) [] (item (column 2 0) desc nulls_first ∷ []) no_outer_rows
 
 abbrev pub a_present : Env
 a_present rel = if rel == 0 then Some (number 1 ∷ number 10 ∷ []) else None
 
 -- IN over a select whose rows are given
 abbrev pub in_given : List Row → Value
-in_given rows = expr_value (given (λ sub. rows)) (Expr-F.InSub 1 (literal (number 1)) aids) nowhere
+in_given rows = expr_value (given (λ sub. rows)) (Expr-F.InSub 1 (literal (number 1)) aids) no_outer_rows

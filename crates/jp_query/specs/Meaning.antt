@@ -1,30 +1,28 @@
 -- Which value an expression has, which tuples a join tree has and which rows a query has: the plain meaning of SQL,
 -- with sublinks in place and joins in the order in which they are written.
-use Rattle.std.specs.Prelude.{ℕ, Bool, true, false, not, ◌&&◌, ◌==◌, List, [], ◌∷◌, ◌++◌, map, filter, fold, Option, Some, None, is_some, bit_or, slice_index_or, if◌then◌else◌}
+use Rattle.std.specs.Prelude.{ℕ, Bool, true, false, not, ◌&&◌, ◌==◌, List, [], ◌∷◌, ◌++◌, map, filter, fold, Option, Some, None, is_some, slice_index_or, if◌then◌else◌}
 use Rattle.std.specs.Int.{bit_at}
 use Rattle.std.specs.List.{list_all, list_any, flat_map, range_with_len}
 use Rattle.std.specs.Option.{option_map}
-use Rattle.std.specs.declared.cmp.Ordering.{Ordering}
-use Rattle.std.specs.declared.cmp.Ordering.TheVariants.{Less, Equal, Greater}
-use Rattle.std.specs.Ordering.{is_lt, ordering_reverse, ordering_then}
 use Rattle.jp_base.specs.declared.truth.Truth.{Truth}
 use Rattle.jp_base.specs.declared.values.Value.{Value}
 use Rattle.jp_base.specs.declared.values.Value.TheVariants as value
-use Rattle.jp_base.specs.Truth.{not_of, truth_of_bool}
-use Rattle.jp_base.specs.Values.{order_of, are_same}
+use Rattle.jp_base.specs.Truth.{not_of}
 use Rattle.jp_query.specs.declared.JoinKind.{JoinKind}
 use Rattle.jp_query.specs.declared.JoinKind.TheVariants as join
 use Rattle.jp_query.specs.Layers.{Expr, JoinTree, Query, Expr-F, JoinTree-F, Order-F, Output-F, Query-F, fold-Expr, fold-JoinTree, fold-Query}
 use Rattle.jp_query.specs.Refs.{only, union}
 use Rattle.jp_query.specs.Joins.{join_rels}
+pub use Rattle.jp_query.specs.Ordering.{Row, Line, Direction, outputs_of, distinct_lines, inserted, sorted}
 use Rattle.jp_query.specs.Operators.{value_of_truth, truth_of_value, is_true, all_of, any_of, compared, between, among, passes, negated, sum_of, product_of, concat_of, first_value, case_of}
-
-abbrev pub Row : Type 0
-Row = List Value
 
 -- An environment gives each relation a row, or none where the relation is absent.
 abbrev pub Env : Type 0
 Env = ℕ → Option Row
+
+-- no relation has a row: the environment of a statement's query
+abbrev pub no_outer_rows : Env
+no_outer_rows rel = None
 
 -- a column; of an absent relation it is NULL
 abbrev pub cell_in : Option Row → ℕ → Value
@@ -41,14 +39,15 @@ is_present set env i = has set i && is_some (env i)
 unfoldable pub any_present : ℕ → Env → Bool
 any_present set env = list_any (is_present set env) (range_with_len 0 64)
 
--- What the parts of a tree mean. Of a join tree it is the set of relations that its tuples give rows to, and the tuples
--- in an outer environment, each of which is that environment with other rows for these relations.
+-- what an expression and a query mean in an environment
 abbrev pub ValueIn : Type 0
 ValueIn = Env → Value
 
 abbrev pub RowsIn : Type 0
 RowsIn = Env → List Row
 
+-- What a join tree means: the set of relations that its tuples give rows to, and the tuples in an outer environment, each
+-- of which is that environment with other rows for these relations.
 pub record Tuples : Type 0 where
   pub rels : ℕ
   pub tuples : Env → List Env
@@ -177,13 +176,13 @@ join_tuples join.Full on l lefts r rights = left_join on r lefts rights ++ map (
 join_tuples join.Semi on l lefts r rights = filter (has_match on r rights) lefts
 join_tuples join.Anti on l lefts r rights = filter (has_no_match on r rights) lefts
 
--- all combinations of the members' tuples, the first member slowest
 abbrev pub extended : Tuples → Env → Env → List Env
 extended member env tuple = map (with_rows member.rels tuple) (member.tuples env)
 
 abbrev pub with_member : Env → List Env → Tuples → List Env
 with_member env tuples member = flat_map (extended member env) tuples
 
+-- all combinations of the members' tuples, the first member slowest
 abbrev pub combined : List Tuples → Env → List Env
 combined members env = fold (with_member env) (env ∷ []) members
 
@@ -205,67 +204,14 @@ order_key order = record { key = order.expr; desc = order.desc; nulls_first = or
 abbrev pub output_value : Output-F ValueIn Tuples SortKey ValueIn RowsIn → ValueIn
 output_value output = output.expr
 
--- a row of outputs, and beside it the values that it is sorted by
-pub record Line : Type 0 where
-  pub outputs : Row
-  pub keys : Row
-
 abbrev pub key_at : Env → SortKey → Value
 key_at env key = key.key env
 
 abbrev pub line_at : List ValueIn → List SortKey → Env → Line
 line_at columns order env = record { outputs = map (value_at env) columns; keys = map (key_at env) order }
 
--- rows are the same where their values are, place by place: NULLs are the same here
-abbrev pub same_rows : Row → Row → Bool
-same_rows [] [] = true
-same_rows (a ∷ left) (b ∷ right) = are_same a b && same_rows left right
-same_rows _ _ = false
-
-abbrev pub differs : Line → Line → Bool
-differs a b = not (same_rows a.outputs b.outputs)
-
--- DISTINCT keeps the first of the lines with the same outputs
-abbrev pub first_lines : List Line → List Line
-first_lines [] = []
-first_lines (line ∷ lines) = line ∷ filter (differs line) (first_lines lines)
-
--- how a sort puts two values of one key: NULLs first or last, values by their order, turned where it descends
-abbrev pub value_order : Bool → Option Ordering → Ordering
-value_order desc (Some order) = if desc then ordering_reverse order else order
-value_order desc None = Equal
-
-abbrev pub key_order : Bool → Bool → Value → Value → Ordering
-key_order desc nulls_first value.Null value.Null = Equal
-key_order desc nulls_first value.Null b = if nulls_first then Less else Greater
-key_order desc nulls_first a value.Null = if nulls_first then Greater else Less
-key_order desc nulls_first a b = value_order desc (order_of a b)
-
--- one key after another; `keys` says of each whether it descends and whether its NULLs come first
-abbrev pub keys_order : List (Bool × Bool) → Row → Row → Ordering
-keys_order (key ∷ keys) (a ∷ left) (b ∷ right) = ordering_then (key_order key.0 key.1 a b) (keys_order keys left right)
-keys_order _ _ _ = Equal
-
-abbrev pub is_before : List (Bool × Bool) → Line → Line → Bool
-is_before keys a b = is_lt (keys_order keys a.keys b.keys)
-
--- The stable sort: a line comes before the first of the later ones that isn't before it.
-abbrev pub inserted : List (Bool × Bool) → Line → List Line → List Line
-inserted keys line [] = line ∷ []
-inserted keys line (next ∷ lines) = if is_before keys next line then next ∷ inserted keys line lines else line ∷ next ∷ lines
-
-abbrev pub sorted : List (Bool × Bool) → List Line → List Line
-sorted keys [] = []
-sorted keys (line ∷ lines) = inserted keys line (sorted keys lines)
-
-abbrev pub direction : SortKey → Bool × Bool
-direction key = (key.desc, key.nulls_first)
-
-abbrev pub outputs_of : Line → Row
-outputs_of line = line.outputs
-
-abbrev pub distinct_lines : Bool → List Line → List Line
-distinct_lines distinct lines = if distinct then first_lines lines else lines
+abbrev pub direction : SortKey → Direction
+direction key = record { desc = key.desc; nulls_first = key.nulls_first }
 
 -- The tuples that make the conditions hold, their outputs and sort keys, under DISTINCT the first of each same row, then
 -- the stable sort.

@@ -1,6 +1,6 @@
 -- What surely holds of an expression where given relations are null-extended, or one given column is NULL. These tests are
 -- this product's own; each follows from the meaning of its operator.
-use Rattle.std.specs.Prelude.{ℕ, ◌==◌, ◌&&◌, ◌||◌, Bool, true, false, bit_and, List, [], ◌∷◌, ◌++◌, map, Option, Some, None, if◌then◌else◌}
+use Rattle.std.specs.Prelude.{ℕ, ◌==◌, ◌&&◌, ◌||◌, Bool, true, false, bit_and, List, [], ◌∷◌, map, if◌then◌else◌}
 use Rattle.std.specs.List.{list_all, list_any, range_with_len}
 use Rattle.jp_base.specs.declared.values.Value.{Value}
 use Rattle.jp_base.specs.declared.values.Value.TheVariants as value
@@ -8,7 +8,7 @@ use Rattle.jp_query.specs.declared.IsTest.{IsTest}
 use Rattle.jp_query.specs.declared.IsTest.TheVariants as is
 use Rattle.jp_query.specs.Layers.{Expr, Expr-F, fold-Expr}
 use Rattle.jp_query.specs.Meaning.{has}
-use Rattle.jp_query.specs.Parts.{all_in, term_part, option_part}
+use Rattle.jp_query.specs.Parts.{all_in, term_part}
 use Rattle.jp_query.specs.Refs.{only, union}
 use Rattle.jp_query.specs.Typing.{is_listed}
 
@@ -111,8 +111,8 @@ pub record Forced : Type 0 where
   pub itself : List (ℕ × ℕ)
   pub forced : List (ℕ × ℕ)
 
-abbrev pub forced_in : Forced → List (ℕ × ℕ)
-forced_in f = f.forced
+abbrev pub forced_part : Forced → List (ℕ × ℕ)
+forced_part f = f.forced
 
 abbrev pub forces_nothing : Forced
 forces_nothing = record { itself = []; forced = [] }
@@ -125,14 +125,14 @@ forced_by_test _ operand = forces_nothing
 abbrev pub expr_forced : Expr-F Forced (Unit {0}) (Unit {0}) (Unit {0}) (Unit {0}) → Forced
 expr_forced (Expr-F.Col rel col ty nulled) = record { itself = (rel, col) ∷ []; forced = [] }
 expr_forced (Expr-F.Test test operand) = forced_by_test test operand
-expr_forced (Expr-F.And members) = record { itself = []; forced = all_in (map forced_in members) }
+expr_forced (Expr-F.And members) = record { itself = []; forced = all_in (map forced_part members) }
 expr_forced _ = forces_nothing
 
-abbrev pub forced_of : Expr → Forced
-forced_of = fold-Expr Forced (Unit {0}) (Unit {0}) (Unit {0}) (Unit {0}) expr_forced (λ t. tt) (λ o. tt) (λ o. tt) (λ q. tt)
+abbrev pub forcing : Expr → Forced
+forcing = fold-Expr Forced (Unit {0}) (Unit {0}) (Unit {0}) (Unit {0}) expr_forced (λ t. tt) (λ o. tt) (λ o. tt) (λ q. tt)
 
 abbrev pub forced_by : Expr → List (ℕ × ℕ)
-forced_by e = (forced_of e).forced
+forced_by e = (forcing e).forced
 
 abbrev pub forced_null : List Expr → List (ℕ × ℕ)
 forced_null conds = all_in (map forced_by conds)

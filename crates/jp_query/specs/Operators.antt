@@ -8,7 +8,7 @@ use Rattle.jp_base.specs.declared.truth.Truth.{Truth}
 use Rattle.jp_base.specs.declared.truth.Truth.TheVariants.{True, False, Unknown}
 use Rattle.jp_base.specs.declared.values.Value.{Value}
 use Rattle.jp_base.specs.declared.values.Value.TheVariants as value
-use Rattle.jp_base.specs.Truth.{truth_of_bool, and_of, or_of, not_of}
+use Rattle.jp_base.specs.Truth.{truth_of_bool, and_of, or_of}
 use Rattle.jp_base.specs.Values.{order_of, is_null}
 use Rattle.jp_query.specs.declared.CmpOp.{CmpOp}
 use Rattle.jp_query.specs.declared.CmpOp.TheVariants as cmp
@@ -47,7 +47,7 @@ all_of = fold and_of True
 abbrev pub any_of : List Truth → Truth
 any_of = fold or_of False
 
--- a comparison: unknown where one side is NULL
+-- whether a comparison is true of a left side that stands so to the right one
 abbrev pub orders_by : CmpOp → Ordering → Bool
 orders_by cmp.Eq order = is_eq order
 orders_by cmp.Ne order = is_ne order
@@ -60,6 +60,7 @@ abbrev pub truth_of_order : CmpOp → Option Ordering → Truth
 truth_of_order op (Some order) = truth_of_bool (orders_by op order)
 truth_of_order op None = Unknown
 
+-- a comparison: unknown where one side is NULL
 abbrev pub compared : CmpOp → Value → Value → Truth
 compared op a b = truth_of_order op (order_of a b)
 
@@ -118,12 +119,12 @@ abbrev pub first_value : List Value → Value
 first_value [] = value.Null
 first_value (v ∷ values) = if is_null v then first_value values else v
 
--- CASE: the result of the first arm that is chosen, else that of ELSE, which is NULL where it is missing. With an
--- operand an arm is chosen where its first value equals it, without one where its first value is true.
+-- an arm of CASE: with an operand it is chosen where its first value equals it, without one where its first value is true
 abbrev pub is_chosen : Option Value → Value → Bool
 is_chosen (Some operand) when = is_true (compared cmp.Eq operand when)
 is_chosen None when = is_true (truth_of_value when)
 
+-- CASE: the result of the first arm that is chosen, else that of ELSE, which is NULL where it is missing
 abbrev pub first_arm : Option Value → List (Value × Value) → Value → Value
 first_arm operand [] otherwise = otherwise
 first_arm operand (arm ∷ arms) otherwise = if is_chosen operand arm.0 then arm.1 else first_arm operand arms otherwise

@@ -1,6 +1,6 @@
 -- What stands directly inside one level of a tree, in the order in which it is written, and the lists that a tree
 -- gathers from all its levels.
-use Rattle.std.specs.Prelude.{ℕ, ◌+◌, ◌==◌, Bool, true, false, not, List, [], ◌∷◌, ◌++◌, map, filter, sum, Option, Some, None}
+use Rattle.std.specs.Prelude.{ℕ, ◌+◌, ◌==◌, Bool, not, List, [], ◌∷◌, ◌++◌, map, filter, sum, Option, Some, None}
 use Rattle.std.specs.List.{list_any}
 use Rattle.jp_base.specs.declared.values.Ty.{Ty}
 use Rattle.jp_query.specs.Refs.{only, union}
@@ -110,13 +110,13 @@ pub record ColumnRef : Type 0 where
   pub type : Ty
 
 module _ {A B C D F : Type 0} where
-  abbrev pub column_of : Expr-F A B C D F → List ColumnRef
-  column_of (Expr-F.Col rel col ty nulled) = record { relation = rel; column = col; type = ty } ∷ []
-  column_of _ = []
+  abbrev pub node_column : Expr-F A B C D F → List ColumnRef
+  node_column (Expr-F.Col rel col ty nulled) = record { relation = rel; column = col; type = ty } ∷ []
+  node_column _ = []
 
-  abbrev pub placeholder_of : Expr-F A B C D F → List ℕ
-  placeholder_of (Expr-F.Place inner rels) = rels ∷ []
-  placeholder_of _ = []
+  abbrev pub node_placeholder : Expr-F A B C D F → List ℕ
+  node_placeholder (Expr-F.Place inner rels) = rels ∷ []
+  node_placeholder _ = []
 
   -- a column, literal or operator, placeholders and sublinks among them
   abbrev pub one_node : Expr-F A B C D F → List (Unit {0})
@@ -136,13 +136,13 @@ module _ {A B C D F : Type 0} where
   base_table _ = []
 
 abbrev pub columns_in : Expr → List ColumnRef
-columns_in = gathered ColumnRef column_of nothing_of_leaf
+columns_in = gathered ColumnRef node_column nothing_of_leaf
 
 abbrev pub columns_in_query : Query → List ColumnRef
-columns_in_query = gathered_in_query ColumnRef column_of nothing_of_leaf
+columns_in_query = gathered_in_query ColumnRef node_column nothing_of_leaf
 
 abbrev pub placeholders_in_query : Query → List ℕ
-placeholders_in_query = gathered_in_query ℕ placeholder_of nothing_of_leaf
+placeholders_in_query = gathered_in_query ℕ node_placeholder nothing_of_leaf
 
 -- the numbers of all leaves, of the base leaves alone, and the tables of the base leaves
 abbrev pub leaves_in : Query → List ℕ
@@ -154,11 +154,11 @@ base_leaves_in = gathered_in_query ℕ nothing_of_node base_number
 abbrev pub tables_in : Query → List ℕ
 tables_in = gathered_in_query ℕ nothing_of_node base_table
 
--- An outer reference of a select: a column in it, at any depth, of a relation that is neither a leaf of it nor of a
--- select inside it.
 abbrev pub is_outside : List ℕ → ColumnRef → Bool
 is_outside leaves column = not (list_any (◌==◌ column.relation) leaves)
 
+-- An outer reference of a select: a column in it, at any depth, of a relation that is neither a leaf of it nor of a
+-- select inside it.
 abbrev pub outer_references : Query → List ColumnRef
 outer_references query = filter (is_outside (leaves_in query)) (columns_in_query query)
 
@@ -191,8 +191,8 @@ output_nodes o = o.expr
 abbrev pub query_nodes : Query-F ℕ ℕ ℕ ℕ ℕ → ℕ
 query_nodes q = sum q.columns + (q.tree + (sum q.conds + sum q.order))
 
-abbrev pub nodes_of : Expr → ℕ
-nodes_of = fold-Expr ℕ ℕ ℕ ℕ ℕ expr_nodes tree_nodes order_nodes output_nodes query_nodes
+abbrev pub nodes_in : Expr → ℕ
+nodes_in = fold-Expr ℕ ℕ ℕ ℕ ℕ expr_nodes tree_nodes order_nodes output_nodes query_nodes
 
-abbrev pub nodes_in : Query → ℕ
-nodes_in = fold-Query ℕ ℕ ℕ ℕ ℕ expr_nodes tree_nodes order_nodes output_nodes query_nodes
+abbrev pub nodes_in_query : Query → ℕ
+nodes_in_query = fold-Query ℕ ℕ ℕ ℕ ℕ expr_nodes tree_nodes order_nodes output_nodes query_nodes

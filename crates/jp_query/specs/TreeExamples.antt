@@ -1,14 +1,12 @@
 -- Small trees that the conditions and tests are run on.
-use Rattle.std.specs.Prelude.{ℕ, ◌^◌, pos, Bool, true, false, List, [], ◌∷◌, Option, Some, None}
-use Rattle.jp_base.specs.declared.values.Value.{Value}
+use Rattle.std.specs.Prelude.{ℕ, ◌^◌, pos, false, List, [], ◌∷◌, Option, Some, None}
 use Rattle.jp_base.specs.declared.values.Value.TheVariants as value
 use Rattle.jp_base.specs.declared.values.Ty.TheVariants as ty
 use Rattle.jp_query.specs.declared.CmpOp.TheVariants as cmp
 use Rattle.jp_query.specs.declared.IsTest.{IsTest}
 use Rattle.jp_query.specs.declared.JoinKind.{JoinKind}
-use Rattle.jp_query.specs.declared.JoinKind.TheVariants as join
 use Rattle.jp_query.specs.declared.Expr.TheViews.{roll-Expr, roll-JoinTree, roll-Order, roll-Output, roll-Query}
-use Rattle.jp_query.specs.Layers.{Expr, JoinTree, Output, Query, Expr-F, JoinTree-F}
+use Rattle.jp_query.specs.Layers.{Expr, JoinTree, Query, Expr-F, JoinTree-F}
 use Rattle.jp_query.specs.Scopes.{Column, Schema}
 use Rattle.jp_query.specs.Meaning.{Row}
 use Rattle.jp_query.specs.Freshness.{Sublink}
@@ -44,8 +42,11 @@ coalesce left right = roll-Expr (Expr-F.Coalesce (left ∷ right ∷ []))
 abbrev pub placeholder : Expr → ℕ → Expr
 placeholder inner rels = roll-Expr (Expr-F.Place inner rels)
 
+abbrev pub exists_by : ℕ → Query → Expr
+exists_by sub query = roll-Expr (Expr-F.Exists sub query)
+
 abbrev pub exists : Query → Expr
-exists query = roll-Expr (Expr-F.Exists 1 query)
+exists = exists_by 1
 
 abbrev pub and : Expr → Expr → Expr
 and left right = roll-Expr (Expr-F.And (left ∷ right ∷ []))

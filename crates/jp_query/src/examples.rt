@@ -1,7 +1,8 @@
 ghost use Rattle.std.specs.Prelude.{◌≡◌, true, false, [], ◌∷◌};
 ghost use Rattle.jp_base.specs.declared.values.Value.TheVariants as value;
 ghost use Rattle.jp_query.specs.declared.JoinKind.TheVariants as join;
-ghost use Rattle.jp_query.specs.Examples.{number, null, nowhere, column, literal, equal, placeholder, in_list, not_in, case_when, by_kind, left_join_inside, combinations, aids, with_match, distinct_values, distinct_by_key, by_value, a_present, in_given};
+ghost use Rattle.jp_query.specs.Meaning.{no_outer_rows};
+ghost use Rattle.jp_query.specs.Examples.{number, null, column, literal, equal, placeholder, in_list, not_in, case_when, by_kind, left_join_inside, combinations, aids, with_match, distinct_values, distinct_by_key, by_value, a_present, in_given};
 
 /// Laws: the meaning of joins on small tables.
 pub fn worked_joins()
@@ -37,15 +38,15 @@ pub fn worked_orders()
 /// Laws: values that NULLs leave.
 #[tactic(auto, unfolding(crate::specs::Meaning::any_present))]
 pub fn worked_values()
-    ensures not_in_over_null { not_in (literal (number 5)) aids nowhere ≡ null }
-    ensures not_in_found { not_in (literal (number 1)) aids nowhere ≡ value.Bool false }
+    ensures not_in_over_null { not_in (literal (number 5)) aids no_outer_rows ≡ null }
+    ensures not_in_found { not_in (literal (number 1)) aids no_outer_rows ≡ value.Bool false }
     ensures exists { with_match ≡ (number 1 ∷ []) ∷ [] }
-    ensures case_without_else { case_when (equal (literal (number 1)) (literal (number 2))) (literal (number 3)) nowhere
+    ensures case_without_else { case_when (equal (literal (number 1)) (literal (number 2))) (literal (number 3)) no_outer_rows
         ≡ null }
-    ensures in_found { in_list (literal (number 1)) (literal (number 1) ∷ literal null ∷ []) nowhere
+    ensures in_found { in_list (literal (number 1)) (literal (number 1) ∷ literal null ∷ []) no_outer_rows
         ≡ value.Bool true }
-    ensures in_unknown { in_list (literal (number 2)) (literal (number 1) ∷ literal null ∷ []) nowhere ≡ null }
-    ensures placeholder_absent { placeholder (literal (number 1)) 1 nowhere ≡ null }
+    ensures in_unknown { in_list (literal (number 2)) (literal (number 1) ∷ literal null ∷ []) no_outer_rows ≡ null }
+    ensures placeholder_absent { placeholder (literal (number 1)) 1 no_outer_rows ≡ null }
     ensures placeholder_present { placeholder (literal (number 1)) 3 a_present ≡ number 1 }
     ensures column_absent { column 1 0 a_present ≡ null }
     ensures given_rows { in_given ((number 1 ∷ []) ∷ []) ≡ value.Bool true }

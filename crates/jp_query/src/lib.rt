@@ -6,6 +6,7 @@
 #![tactic(auto)]
 
 mod copies;
+mod equality;
 mod examples;
 mod laws;
 mod references;
@@ -13,6 +14,7 @@ mod references;
 mod tests;
 mod tree_examples;
 
+pub use equality::is_same;
 pub use examples::{worked_joins, worked_orders, worked_values};
 use jp_base::{RelNo, RelSet, SubNo, Txt, Ty, Value};
 pub use laws::{in_reads_as_said, tuples_have_the_relations};

@@ -3,14 +3,14 @@ ghost use Rattle.jp_base.specs.declared.values.Ty.TheVariants as ty;
 ghost use Rattle.jp_query.specs.declared.IsTest.TheVariants as is;
 ghost use Rattle.jp_query.specs.declared.JoinKind.TheVariants as join;
 ghost use Rattle.jp_query.specs.Refs.{refs_of};
-ghost use Rattle.jp_query.specs.Parts.{outer_references, rels_of, nodes_in};
+ghost use Rattle.jp_query.specs.Parts.{outer_references, rels_of, nodes_in_query};
 ghost use Rattle.jp_query.specs.Typing.{type_of, typed_query};
-ghost use Rattle.jp_query.specs.Conditions.{judged_query, knows_columns, knows_placeholders, tells_relations_apart, keeps_bounds, leaves_of, has_leaves};
-ghost use Rattle.jp_query.specs.Scopes.{Belong};
-ghost use Rattle.jp_query.specs.Freshness.{places_of, sublinks_in};
+ghost use Rattle.jp_query.specs.Conditions.{judged_query, knows_columns, knows_placeholders, tells_relations_apart, keeps_bounds, judged_leaves, has_leaves};
+ghost use Rattle.jp_query.specs.Tables.{Belong};
+ghost use Rattle.jp_query.specs.Freshness.{each_pair, may_stand, occurrences_in, sublinks_in};
 ghost use Rattle.jp_query.specs.Nullness.{rejects_relation, surely_of, rejects, forced_null};
 ghost use Rattle.jp_query.specs.Nullness.Gone.{relations};
-ghost use Rattle.jp_query.specs.TreeExamples.{some_tables, number_of, ordered_by_itself, schema, col, one, equals, test, product, sum, coalesce, placeholder, exists, and, a, b, all, a_with_b, select, inner_select};
+ghost use Rattle.jp_query.specs.TreeExamples.{some_tables, number_of, ordered_by_itself, schema, col, one, equals, test, product, sum, coalesce, placeholder, exists, exists_by, and, a, b, all, a_with_b, select, inner_select};
 
 /// Laws: the parts of small trees.
 #[tactic(auto, using(crate::proofs::TreeRules::folds))]
@@ -19,7 +19,7 @@ pub fn worked_parts()
     ensures both_sides { rels_of (a_with_b join.Left) ≡ 3 }
     ensures left_side { rels_of (a_with_b join.Semi) ≡ 1 }
     ensures outer { outer_references inner_select ≡ record { relation = 0; column = 0; type = ty.Number } ∷ [] }
-    ensures nodes { nodes_in (select (exists inner_select) a []) ≡ 5 }
+    ensures nodes { nodes_in_query (select (exists inner_select) a []) ≡ 5 }
 {}
 
 /// Laws: which small queries are typed and bounded.
@@ -38,8 +38,8 @@ pub fn worked_conditions()
     ensures wide_enough { (judged_query schema keeps_bounds
         (select (sum (product (col 0 0) (col 1 0)) (col 0 0)) (all (a ∷ b ∷ [])) [])).passes []
         ≡ true }
-    ensures leaf_twice { (leaves_of (select one (all (a ∷ a ∷ [])) [])).apart ≡ false }
-    ensures copies_of_a_sublink { (leaves_of (select one a (exists inner_select ∷ exists inner_select ∷ []))).apart ≡ true }
+    ensures leaf_twice { (judged_leaves (select one (all (a ∷ a ∷ [])) [])).apart ≡ false }
+    ensures copies_of_a_sublink { (judged_leaves (select one a (exists inner_select ∷ exists inner_select ∷ []))).apart ≡ true }
     ensures no_leaf { has_leaves (select one (all []) []) ≡ false }
 {}
 
@@ -63,6 +63,10 @@ pub fn worked_freshness()
     ensures tables { Belong schema some_tables }
     ensures one_table_short { ¬ Belong schema (None ∷ []) }
     ensures sublinks { map number_of (sublinks_in (select (exists inner_select) a [])) ≡ 1 ∷ [] }
-    ensures copy_in_order { (places_of (ordered_by_itself (exists inner_select))).elsewhere ≡ true }
-    ensures copy_in_where { (places_of (select one a (exists inner_select ∷ exists inner_select ∷ []))).elsewhere ≡ false }
+    ensures copy_in_order { each_pair may_stand (occurrences_in (ordered_by_itself (exists inner_select))) ≡ true }
+    ensures copy_in_where { each_pair may_stand (occurrences_in (select one a (exists inner_select ∷ exists inner_select ∷ []))) ≡ false }
+    ensures copy_in_copies { each_pair may_stand (occurrences_in
+        (ordered_by_itself (exists (select one a (exists_by 2 inner_select ∷ []))))) ≡ true }
+    ensures copy_in_one_sublink { each_pair may_stand (occurrences_in (ordered_by_itself
+        (exists (select one a (exists_by 2 inner_select ∷ exists_by 2 inner_select ∷ []))))) ≡ false }
 {}

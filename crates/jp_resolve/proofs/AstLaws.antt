@@ -7,15 +7,15 @@ use Rattle.jp_base.specs.declared.values.Ty.{Ty}
 use Rattle.jp_base.specs.declared.values.Ty.TheVariants as ty
 use Rattle.jp_base.specs.declared.values.Value.TheVariants as value
 use Rattle.jp_catalog.specs.declared.types.Catalog.{Catalog}
-use Rattle.jp_parse.specs.declared.tree.Ast.{Ast}
-use Rattle.jp_parse.specs.declared.tree.FromItem.{FromItem}
-use Rattle.jp_parse.specs.declared.tree.Target.{Target}
-use Rattle.jp_parse.specs.declared.tree.Select.{Select}
-use Rattle.jp_parse.specs.declared.tree.CmpWord.{CmpWord}
-use Rattle.jp_parse.specs.declared.tree.IsWord.TheVariants as test
-use Rattle.jp_parse.specs.declared.tree.Ast.TheOpen.{Ast-F}
-use Rattle.jp_parse.specs.declared.tree.Ast.TheViews.{roll-Ast}
-use Rattle.jp_parse.specs.declared.tree.Ast.TheFolds.{map-Ast, ind-Ast, fold-roll-Ast, fold-Target, fold-Select}
+use Rattle.jp_ast.specs.declared.tree.Ast.{Ast}
+use Rattle.jp_ast.specs.declared.tree.FromItem.{FromItem}
+use Rattle.jp_ast.specs.declared.tree.Target.{Target}
+use Rattle.jp_ast.specs.declared.tree.Select.{Select}
+use Rattle.jp_ast.specs.declared.tree.CmpWord.{CmpWord}
+use Rattle.jp_ast.specs.declared.tree.IsWord.TheVariants as test
+use Rattle.jp_ast.specs.declared.tree.Ast.TheOpen.{Ast-F}
+use Rattle.jp_ast.specs.declared.tree.Ast.TheViews.{roll-Ast}
+use Rattle.jp_ast.specs.declared.tree.Ast.TheFolds.{map-Ast, ind-Ast, fold-roll-Ast, fold-Target, fold-Select}
 use Rattle.jp_query.specs.declared.Expr.{Expr}
 use Rattle.jp_query.specs.declared.Expr.TheVariants as expr
 use Rattle.jp_query.specs.declared.Query.{Query}

@@ -7,9 +7,9 @@ use Rattle.std.proofs.lemmas.Bool.{eq-eqb, ne_eqb}
 use Rattle.std.proofs.lemmas.Option.{none-some, same_Some, slice_get-map}
 use Rattle.jp_base.specs.declared.values.Ty.{Ty}
 use Rattle.jp_catalog.specs.Names.{place_of}
-use Rattle.jp_query.specs.Scopes.{Scope, columns_of, column_at}
+use Rattle.jp_query.specs.Scopes.{Scope, visible_columns, visible_column}
 use Rattle.jp_query.specs.Scopes as scopes
-use Rattle.jp_resolve.specs.Names.{Entry, Column, column_at as entry_column, column_in, entry_of, qualified_column, with_column, columns_named, the_only, unqualified_column}
+use Rattle.jp_resolve.specs.Names.{Entry, Column, entry_column, column_named, entry_of, qualified_column, with_column, columns_named, the_only, unqualified_column}
 use Rattle.jp_resolve.specs.Resolving.{all_of, with_first}
 use Rattle.jp_resolve.specs.Schemas.{bound_of, schema_column, schema_columns}
 use Rattle.jp_resolve.proofs.Plain.{Numbered}
@@ -47,13 +47,13 @@ typed_column t = record { type = t; bound = bound_of t }
 pub record IsSeen (n : ℕ) (scope : Scope) (column : Column) : Type 0 where
   pub low : n ≤ column.relation
   pub high : column.relation < n + length scope
-  pub there : column_at scope column.relation column.place ≡ Some (typed_column column.type)
+  pub there : visible_column scope column.relation column.place ≡ Some (typed_column column.type)
 
 -- a column of the entry
 abbrev IsOf : Entry → Column → Type 0
 IsOf entry column = (column.relation ≡ entry.relation) × (slice_get (schema_columns entry.columns) column.place ≡ Some (typed_column column.type))
 
-of_entry : (entry : Entry) (name : List ℕ) (column : Column) → column_in name entry ≡ Some column → IsOf entry column
+of_entry : (entry : Entry) (name : List ℕ) (column : Column) → column_named name entry ≡ Some column → IsOf entry column
 of_entry entry name column e =
     let found = and_then_parts (entry_column entry) (place_of name entry.columns) column e in
     let made = map_parts (λ (c : List ℕ × Ty). record { relation = entry.relation; place = found.0; type = c.1 }) (slice_get entry.columns found.0) column found.2 in
@@ -63,14 +63,14 @@ seen_first : (n : ℕ) (entry : Entry) (entries : List Entry) (column : Column) 
 seen_first n entry entries column at is = record {
   low = omega (arith, at, is.0);
   high = omega (arith, at, is.0);
-  there = ap (λ b. slice_get (if b then schema_columns entry.columns else columns_of (scope_of entries) column.relation) column.place) (eq-eqb entry.relation column.relation (sym is.0)) ∙ is.1;
+  there = ap (λ b. slice_get (if b then schema_columns entry.columns else visible_columns (scope_of entries) column.relation) column.place) (eq-eqb entry.relation column.relation (sym is.0)) ∙ is.1;
 }
 
 seen_later : (n : ℕ) (entry : Entry) (entries : List Entry) (column : Column) → entry.relation ≡ n → IsSeen (suc n) (scope_of entries) column → IsSeen n (scope_of (entry ∷ entries)) column
 seen_later n entry entries column at is = record {
   low = omega (arith, is.low);
   high = omega (arith, is.high);
-  there = ap (λ b. slice_get (if b then schema_columns entry.columns else columns_of (scope_of entries) column.relation) column.place) (ne_eqb entry.relation column.relation (λ e. omega (arith, e, at, is.low))) ∙ is.there;
+  there = ap (λ b. slice_get (if b then schema_columns entry.columns else visible_columns (scope_of entries) column.relation) column.place) (ne_eqb entry.relation column.relation (λ e. omega (arith, e, at, is.low))) ∙ is.there;
 }
 
 -- ---- qualified names
@@ -80,8 +80,8 @@ unfolding qualified_column
 sees_qualified n [] qualifier name column numbered e = absurd (none-some column e)
 sees_qualified n (entry ∷ entries) qualifier name column numbered e = cases (bytes_eq qualifier entry.name) e (sees_qualified (suc n) entries qualifier name column numbered.1)
   where
-    cases : (b : Bool) → option_and_then (column_in name) (if b then Some entry else entry_of qualifier entries) ≡ Some column
-        → (option_and_then (column_in name) (entry_of qualifier entries) ≡ Some column → IsSeen (suc n) (scope_of entries) column) → IsSeen n (scope_of (entry ∷ entries)) column
+    cases : (b : Bool) → option_and_then (column_named name) (if b then Some entry else entry_of qualifier entries) ≡ Some column
+        → (option_and_then (column_named name) (entry_of qualifier entries) ≡ Some column → IsSeen (suc n) (scope_of entries) column) → IsSeen n (scope_of (entry ∷ entries)) column
     cases true h later = seen_first n entry entries column numbered.0 (of_entry entry name column h)
     cases false h later = seen_later n entry entries column numbered.0 (later h)
 
@@ -93,9 +93,9 @@ each_later n entry entries (column ∷ columns) at each = (seen_later n entry en
 
 each_named : (n : ℕ) (entries : List Entry) (name : List ℕ) → Numbered n (scope_of entries) → Each (IsSeen n (scope_of entries)) (columns_named name entries)
 each_named n [] name numbered = tt
-each_named n (entry ∷ entries) name numbered = cases (column_in name entry) refl (each_later n entry entries (columns_named name entries) numbered.0 (each_named (suc n) entries name numbered.1))
+each_named n (entry ∷ entries) name numbered = cases (column_named name entry) refl (each_later n entry entries (columns_named name entries) numbered.0 (each_named (suc n) entries name numbered.1))
   where
-    cases : (o : Option Column) → column_in name entry ≡ o → Each (IsSeen n (scope_of (entry ∷ entries))) (columns_named name entries) → Each (IsSeen n (scope_of (entry ∷ entries))) (with_column o (columns_named name entries))
+    cases : (o : Option Column) → column_named name entry ≡ o → Each (IsSeen n (scope_of (entry ∷ entries))) (columns_named name entries) → Each (IsSeen n (scope_of (entry ∷ entries))) (with_column o (columns_named name entries))
     cases None is rest = rest
     cases (Some column) is rest = (seen_first n entry entries column numbered.0 (of_entry entry name column is), rest)
 

@@ -8,16 +8,16 @@ use Rattle.std.proofs.lemmas.List.{at_drop_more, append-nil}
 use Rattle.jp_base.specs.declared.values.Ty.{Ty}
 use Rattle.jp_base.specs.declared.values.Ty.TheVariants as ty
 use Rattle.jp_base.specs.declared.values.Value.TheVariants as value
-use Rattle.jp_parse.specs.declared.tree.Ast.{Ast, out-Ast, roll-Ast, roll-out-Ast}
-use Rattle.jp_parse.specs.declared.tree.FromItem.{FromItem}
-use Rattle.jp_parse.specs.declared.tree.Target.{Target}
-use Rattle.jp_parse.specs.declared.tree.Select.{Select}
-use Rattle.jp_parse.specs.declared.tree.Ast.TheFolds.{map-Ast, fold-roll-Ast, fold-Target, fold-Select}
-use Rattle.jp_parse.specs.declared.tree.CmpWord.{CmpWord}
-use Rattle.jp_parse.specs.declared.tree.IsWord.{IsWord}
-use Rattle.jp_parse.specs.declared.tree.IsWord.TheVariants as word
-use Rattle.jp_parse.specs.declared.tree.Ast.TheVariants as ast
-use Rattle.jp_parse.specs.declared.tree.Ast.TheOpen.{Ast-F}
+use Rattle.jp_ast.specs.declared.tree.Ast.{Ast, out-Ast, roll-Ast, roll-out-Ast}
+use Rattle.jp_ast.specs.declared.tree.FromItem.{FromItem}
+use Rattle.jp_ast.specs.declared.tree.Target.{Target}
+use Rattle.jp_ast.specs.declared.tree.Select.{Select}
+use Rattle.jp_ast.specs.declared.tree.Ast.TheFolds.{map-Ast, fold-roll-Ast, fold-Target, fold-Select}
+use Rattle.jp_ast.specs.declared.tree.CmpWord.{CmpWord}
+use Rattle.jp_ast.specs.declared.tree.IsWord.{IsWord}
+use Rattle.jp_ast.specs.declared.tree.IsWord.TheVariants as word
+use Rattle.jp_ast.specs.declared.tree.Ast.TheVariants as ast
+use Rattle.jp_ast.specs.declared.tree.Ast.TheOpen.{Ast-F}
 use Rattle.jp_query.specs.declared.Expr.{Expr}
 use Rattle.jp_query.specs.declared.Expr.TheVariants as expr
 use Rattle.jp_query.specs.declared.Query.{Query}

@@ -5,14 +5,14 @@ use Rattle.std.proofs.lemmas.Bool.{le-leb}
 use Rattle.std.proofs.lemmas.Bool.Decides.{leb_tells}
 use Rattle.std.specs.Option.{option_map, option_and_then}
 use Rattle.jp_catalog.specs.declared.types.Catalog.{Catalog}
-use Rattle.jp_parse.specs.declared.tree.Ast.{Ast}
-use Rattle.jp_parse.specs.declared.tree.FromItem.{FromItem, out-FromItem, roll-FromItem, roll-out-FromItem, size-FromItem, the_lemmas}
-use Rattle.jp_parse.specs.declared.tree.Select.{Select}
-use Rattle.jp_parse.specs.declared.tree.Target.{Target}
-use Rattle.jp_parse.specs.declared.tree.JoinWord.{JoinWord}
-use Rattle.jp_parse.specs.declared.tree.Ast.TheOpen.{FromItem-F}
-use Rattle.jp_parse.specs.declared.tree.Ast.TheFolds.{fold-roll-FromItem}
-use Rattle.jp_parse.specs.declared.tree.FromItem.TheVariants as item
+use Rattle.jp_ast.specs.declared.tree.Ast.{Ast}
+use Rattle.jp_ast.specs.declared.tree.FromItem.{FromItem, out-FromItem, roll-FromItem, roll-out-FromItem, size-FromItem, the_lemmas}
+use Rattle.jp_ast.specs.declared.tree.Select.{Select}
+use Rattle.jp_ast.specs.declared.tree.Target.{Target}
+use Rattle.jp_ast.specs.declared.tree.JoinWord.{JoinWord}
+use Rattle.jp_ast.specs.declared.tree.Ast.TheOpen.{FromItem-F}
+use Rattle.jp_ast.specs.declared.tree.Ast.TheFolds.{fold-roll-FromItem}
+use Rattle.jp_ast.specs.declared.tree.FromItem.TheVariants as item
 use Rattle.jp_query.specs.declared.Expr.{Expr}
 use Rattle.jp_query.specs.declared.JoinKind.{JoinKind}
 use Rattle.jp_query.specs.declared.JoinTree.TheVariants as tree

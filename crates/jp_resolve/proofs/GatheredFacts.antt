@@ -9,7 +9,7 @@ use Rattle.std.proofs.lemmas.Option.{slice_get_within}
 use Rattle.jp_base.specs.declared.values.Ty.{Ty}
 use Rattle.jp_query.specs.declared.Expr.TheOpen.{Expr-F, JoinTree-F}
 use Rattle.jp_query.specs.Conditions.{relation_of}
-use Rattle.jp_query.specs.Parts.{all_in, expr_gives, tree_gives, order_gives, output_gives, query_gives, nothing_of_node, nothing_of_leaf, placeholder_of, leaf_number, base_number, base_table}
+use Rattle.jp_query.specs.Parts.{all_in, expr_gives, tree_gives, order_gives, output_gives, query_gives, nothing_of_node, nothing_of_leaf, node_placeholder, leaf_number, base_number, base_table}
 use Rattle.jp_query.specs.Scopes.{Column, Scope, Schema}
 use Rattle.jp_resolve.proofs.Plain.{null_test, inner_or_left}
 use Rattle.jp_resolve.proofs.Steps.{Each, ExprSteps, TreeSteps}
@@ -79,7 +79,7 @@ Level = Expr-F (List ℕ) (List ℕ) (List ℕ) (List ℕ) (List ℕ)
 abbrev pub TreeLevel : Type 0
 TreeLevel = JoinTree-F (List ℕ) (List ℕ) (List ℕ) (List ℕ) (List ℕ)
 
-no_placeholder : (x : Level) → is_bare x ≡ true → placeholder_of x ≡ []
+no_placeholder : (x : Level) → is_bare x ≡ true → node_placeholder x ≡ []
 no_placeholder (Expr-F.Place inner rels) h = absurd (false≢true h)
 no_placeholder _ h = refl
 
@@ -108,7 +108,7 @@ AreTables schema scope xs = All (λ table. table < length schema) xs
 numbers_join : (a b : Scope) (xs ys : List ℕ) → AreNumbers a xs → AreNumbers b ys → AreNumbers (a ++ b) (xs ++ ys)
 numbers_join a b xs ys p q = ap (λ z. z ++ ys) p ∙ ap (λ z. map relation_of a ++ z) q ∙ sym (map-append relation_of a b)
 
-pub placeholder_sources : (schema : Schema) → Sources ℕ placeholder_of nothing_of_leaf schema AreNone
+pub placeholder_sources : (schema : Schema) → Sources ℕ node_placeholder nothing_of_leaf schema AreNone
 placeholder_sources schema = record {
   nodes = no_placeholder;
   inner = λ x h. refl;

@@ -6,15 +6,15 @@ use Rattle.std.proofs.lemmas.List.{length-map, length-append, map-append}
 use Rattle.std.proofs.lemmas.Option.{none-some, same_Some, slice_get-map}
 use Rattle.jp_catalog.specs.declared.types.Catalog.{Catalog}
 use Rattle.jp_catalog.specs.Names.{place_of}
-use Rattle.jp_parse.specs.declared.tree.Ast.{Ast}
-use Rattle.jp_parse.specs.declared.tree.FromItem.{FromItem}
-use Rattle.jp_parse.specs.declared.tree.Target.{Target}
-use Rattle.jp_parse.specs.declared.tree.Select.{Select}
-use Rattle.jp_parse.specs.declared.tree.JoinWord.{JoinWord}
-use Rattle.jp_parse.specs.declared.tree.JoinWord.TheVariants as word
-use Rattle.jp_parse.specs.declared.tree.Ast.TheOpen.{FromItem-F}
-use Rattle.jp_parse.specs.declared.tree.Ast.TheViews.{roll-FromItem}
-use Rattle.jp_parse.specs.declared.tree.Ast.TheFolds.{map-FromItem, ind-FromItem, fold-roll-FromItem}
+use Rattle.jp_ast.specs.declared.tree.Ast.{Ast}
+use Rattle.jp_ast.specs.declared.tree.FromItem.{FromItem}
+use Rattle.jp_ast.specs.declared.tree.Target.{Target}
+use Rattle.jp_ast.specs.declared.tree.Select.{Select}
+use Rattle.jp_ast.specs.declared.tree.JoinWord.{JoinWord}
+use Rattle.jp_ast.specs.declared.tree.JoinWord.TheVariants as word
+use Rattle.jp_ast.specs.declared.tree.Ast.TheOpen.{FromItem-F}
+use Rattle.jp_ast.specs.declared.tree.Ast.TheViews.{roll-FromItem}
+use Rattle.jp_ast.specs.declared.tree.Ast.TheFolds.{map-FromItem, ind-FromItem, fold-roll-FromItem}
 use Rattle.jp_query.specs.declared.Expr.{Expr}
 use Rattle.jp_query.specs.declared.JoinTree.TheVariants as tree
 use Rattle.jp_query.specs.declared.JoinKind.{JoinKind}

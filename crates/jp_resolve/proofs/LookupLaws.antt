@@ -4,12 +4,12 @@ use Rattle.std.specs.Prelude.{is_some, not, ◌&&◌, ◌||◌, if◌then◌else
 use Rattle.std.specs.List.{list_any}
 use Rattle.std.specs.Str.{bytes_eq}
 use Rattle.std.proofs.lemmas.List.{at_drop_more, take_all}
-use Rattle.jp_resolve.specs.Names.{Entry, Column, entry_of, column_in, with_column, columns_named, the_only, is_named, have_distinct_names}
+use Rattle.jp_resolve.specs.Names.{Entry, Column, entry_of, column_named, with_column, columns_named, the_only, is_named, have_distinct_names}
 use Rattle.jp_resolve.specs.Views.{shown}
 use Rattle.jp_resolve.specs.declared.entries.Entry as lent
 
 -- the entries that are left, once one has been met
-pub columns_at : (name : List ℕ) (entry : Entry) (entries : List Entry) (c : Option Column) → column_in name entry ≡ c → columns_named name (entry ∷ entries) ≡ with_column c (columns_named name entries)
+pub columns_at : (name : List ℕ) (entry : Entry) (entries : List Entry) (c : Option Column) → column_named name entry ≡ c → columns_named name (entry ∷ entries) ≡ with_column c (columns_named name entries)
 columns_at name entry entries c e = ap (λ c. with_column c (columns_named name entries)) e
 
 -- the only one of all that were found and those that are left

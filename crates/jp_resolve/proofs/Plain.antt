@@ -16,7 +16,7 @@ use Rattle.jp_query.specs.declared.JoinTree.{JoinTree}
 use Rattle.jp_query.specs.declared.JoinTree.TheVariants as tree
 use Rattle.jp_query.specs.Conditions.{fits}
 use Rattle.jp_query.specs.Typing.{is_listed}
-use Rattle.jp_query.specs.Scopes.{Column, Scope, Schema, column_at}
+use Rattle.jp_query.specs.Scopes.{Column, Scope, Schema, visible_column}
 
 -- a column of numbers
 abbrev pub numbers : Column
@@ -36,7 +36,7 @@ Numbered first (entry ∷ scope) = (entry.relation ≡ first) × Numbered (suc f
 
 mutual
   pub data Plain (scope : Scope) : Ty → Expr → Type 0 where
-    column : (rel place : ℕ) → rel < 64 → column_at scope rel place ≡ Some numbers → Plain scope ty.Number (expr.Col rel place ty.Number 0)
+    column : (rel place : ℕ) → rel < 64 → visible_column scope rel place ≡ Some numbers → Plain scope ty.Number (expr.Col rel place ty.Number 0)
     literal : (n : ℤ) → fits (nat_abs n) ≡ true → Plain scope ty.Number (expr.Lit (value.Num n) ty.Number)
     comparison : (op : CmpOp) (t : Ty) (left right : Expr) → Plain scope t left → Plain scope t right → Plain scope ty.Boolean (expr.Compare op left right)
     conjunction : (members : List Expr) → is_listed members ≡ true → Plains scope members → Plain scope ty.Boolean (expr.And members)

@@ -4,20 +4,20 @@ use Rattle.std.specs.Prelude.{IfOk, option_map, option_and_then, nat_le, if◌th
 use Rattle.std.proofs.lemmas.Bool.{leb-true}
 use Rattle.std.proofs.lemmas.Option.{none-some, same_Some}
 use Rattle.jp_catalog.specs.declared.types.Catalog.{Catalog}
-use Rattle.jp_parse.specs.declared.tree.Ast.{Ast}
-use Rattle.jp_parse.specs.declared.tree.FromItem.{FromItem}
-use Rattle.jp_parse.specs.declared.tree.OrderAst.{OrderAst}
-use Rattle.jp_parse.specs.declared.tree.Target.{Target, out-Target}
-use Rattle.jp_parse.specs.declared.tree.Select.{Select, out-Select}
-use Rattle.jp_parse.specs.declared.tree.Stmt.{Stmt}
-use Rattle.jp_parse.specs.declared.tree.Ast.TheOpen.{Target-F}
-use Rattle.jp_parse.specs.declared.tree.Ast.TheFolds.{map-Target, map-Select, fold_out-Target, fold_out-Select}
+use Rattle.jp_ast.specs.declared.tree.Ast.{Ast}
+use Rattle.jp_ast.specs.declared.tree.FromItem.{FromItem}
+use Rattle.jp_ast.specs.declared.tree.OrderAst.{OrderAst}
+use Rattle.jp_ast.specs.declared.tree.Target.{Target, out-Target}
+use Rattle.jp_ast.specs.declared.tree.Select.{Select, out-Select}
+use Rattle.jp_ast.specs.declared.tree.Stmt.{Stmt}
+use Rattle.jp_ast.specs.declared.tree.Ast.TheOpen.{Target-F}
+use Rattle.jp_ast.specs.declared.tree.Ast.TheFolds.{map-Target, map-Select, fold_out-Target, fold_out-Select}
 use Rattle.jp_query.specs.declared.Expr.{Expr}
 use Rattle.jp_query.specs.declared.Output.{Output}
 use Rattle.jp_query.specs.declared.Query.{Query}
 use Rattle.jp_query.specs.Conditions.{IsTyped, IsBounded}
 use Rattle.jp_query.specs.Freshness.{IsFresh}
-use Rattle.jp_naive.specs.Built.{IsBuilt}
+use Rattle.jp_query.specs.Evaluable.{IsBuilt}
 use Rattle.jp_resolve.specs.declared.error.ResolveError.{ResolveError}
 use Rattle.jp_resolve.specs.Names.{Entry, have_distinct_names}
 use Rattle.jp_resolve.specs.Resolving.{Agrees, Meant, Item, Source, OutputOver, output, target_over, outputs_over, where_over, plain_query, source_query, item_query, ast_meant, item_meant, target_meant, select_meant, meant_by, item_of, query_of}

@@ -1,12 +1,12 @@
 -- The forms of expressions and targets that are built mean the same over every catalogue, and an item has the same count.
 use Rattle.std.proofs.Common.{◌≡◌, ◌∙◌, ap, sym, refl, subst, ◌+◌, List, [], ◌∷◌, map, Option}
 use Rattle.jp_catalog.specs.declared.types.Catalog.{Catalog}
-use Rattle.jp_parse.specs.declared.tree.Ast.{Ast, roll-Ast}
-use Rattle.jp_parse.specs.declared.tree.FromItem.{FromItem, roll-FromItem}
-use Rattle.jp_parse.specs.declared.tree.Target.{Target, roll-Target}
-use Rattle.jp_parse.specs.declared.tree.Select.{Select}
-use Rattle.jp_parse.specs.declared.tree.Ast.TheOpen.{Ast-F, FromItem-F, Target-F}
-use Rattle.jp_parse.specs.declared.tree.Ast.TheFolds.{map-Ast, map-FromItem, map-Target, fold-roll-Ast, fold-roll-FromItem, fold-roll-Target, ind-Ast, ind-FromItem, ind-Target}
+use Rattle.jp_ast.specs.declared.tree.Ast.{Ast, roll-Ast}
+use Rattle.jp_ast.specs.declared.tree.FromItem.{FromItem, roll-FromItem}
+use Rattle.jp_ast.specs.declared.tree.Target.{Target, roll-Target}
+use Rattle.jp_ast.specs.declared.tree.Select.{Select}
+use Rattle.jp_ast.specs.declared.tree.Ast.TheOpen.{Ast-F, FromItem-F, Target-F}
+use Rattle.jp_ast.specs.declared.tree.Ast.TheFolds.{map-Ast, map-FromItem, map-Target, fold-roll-Ast, fold-roll-FromItem, fold-roll-Target, ind-Ast, ind-FromItem, ind-Target}
 use Rattle.jp_query.specs.declared.Query.{Query}
 use Rattle.jp_resolve.specs.Resolving.{Meant, Item, OutputOver, ast_meant, item_meant, target_meant, select_meant, meant_by, item_of}
 use Rattle.jp_resolve.specs.Answers.{no_tables, meant, target_by, select_by}

@@ -4,15 +4,15 @@ use Rattle.std.specs.Prelude.{if◌then◌else◌, nat_le}
 use Rattle.std.specs.List.{flat_map}
 use Rattle.std.specs.Option.{option_map, option_and_then}
 use Rattle.jp_catalog.specs.declared.types.Catalog.{Catalog}
-use Rattle.jp_parse.specs.declared.tree.Ast.{Ast, out-Ast, roll-Ast, roll-out-Ast}
-use Rattle.jp_parse.specs.declared.tree.FromItem.{FromItem}
-use Rattle.jp_parse.specs.declared.tree.Target.{Target}
-use Rattle.jp_parse.specs.declared.tree.Select.{Select, out-Select}
-use Rattle.jp_parse.specs.declared.tree.Ast.TheOpen.{Ast-F, Target-F}
-use Rattle.jp_parse.specs.declared.tree.Ast.TheFolds.{fold-roll-Ast, fold-roll-Target}
-use Rattle.jp_parse.specs.declared.tree.Ast.TheVariants as ast
-use Rattle.jp_parse.specs.declared.tree.Target.TheVariants as target
-use Rattle.jp_parse.specs.declared.tree.OrderAst.{OrderAst}
+use Rattle.jp_ast.specs.declared.tree.Ast.{Ast, out-Ast, roll-Ast, roll-out-Ast}
+use Rattle.jp_ast.specs.declared.tree.FromItem.{FromItem}
+use Rattle.jp_ast.specs.declared.tree.Target.{Target}
+use Rattle.jp_ast.specs.declared.tree.Select.{Select, out-Select}
+use Rattle.jp_ast.specs.declared.tree.Ast.TheOpen.{Ast-F, Target-F}
+use Rattle.jp_ast.specs.declared.tree.Ast.TheFolds.{fold-roll-Ast, fold-roll-Target}
+use Rattle.jp_ast.specs.declared.tree.Ast.TheVariants as ast
+use Rattle.jp_ast.specs.declared.tree.Target.TheVariants as target
+use Rattle.jp_ast.specs.declared.tree.OrderAst.{OrderAst}
 use Rattle.jp_query.specs.declared.Expr.{Expr}
 use Rattle.jp_query.specs.declared.JoinTree.{JoinTree}
 use Rattle.jp_query.specs.declared.Output.{Output}

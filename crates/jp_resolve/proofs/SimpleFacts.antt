@@ -1,17 +1,16 @@
 -- The trees of resolution are rooted and built, and have no sublinks.
-use Rattle.std.proofs.Common.{◌≡◌, ◌∙◌, ap, refl, ℕ, Bool, true, false, List, [], ◌∷◌}
+use Rattle.std.proofs.Common.{◌≡◌, ◌∙◌, ap, refl, ℕ, ◌+◌, Bool, true, false, List, [], ◌∷◌, ◌++◌, map}
 use Rattle.std.specs.Prelude.{◌&&◌}
 use Rattle.std.proofs.lemmas.Bool.{and_from}
 use Rattle.jp_base.specs.declared.values.Ty.{Ty}
 use Rattle.jp_query.specs.declared.Expr.TheOpen.{JoinTree-F}
 use Rattle.jp_query.specs.Conditions.{all_true, expr_rooted, tree_rooted, order_rooted, output_rooted, query_rooted}
-use Rattle.jp_query.specs.Freshness.{Places, none_placed, placed_beside, placed_together, placed_elsewhere, expr_places, tree_places, order_places, output_places, query_places}
+use Rattle.jp_query.specs.Freshness.{Occurrence, below, from_parts, expr_occurrences, tree_occurrences, order_occurrences, output_occurrences, query_occurrences}
 use Rattle.jp_query.specs.Typing.{is_true_test}
 use Rattle.jp_query.specs.Scopes.{Scope, Schema}
-use Rattle.jp_eval.specs.Evaluable.{evaluable_level}
-use Rattle.jp_naive.specs.Built.{tree_built, order_built, output_built, query_built}
+use Rattle.jp_query.specs.Evaluable.{evaluable_level, tree_built, order_built, output_built, query_built}
 use Rattle.jp_resolve.proofs.Plain.{inner_or_left}
-use Rattle.jp_resolve.proofs.Steps.{Each, each_true, each_neutral, ExprSteps, TreeSteps}
+use Rattle.jp_resolve.proofs.Steps.{Each, each_true, ExprSteps, TreeSteps}
 
 abbrev pub Passes : Scope → Ty → Bool → Type 0
 Passes scope t b = b ≡ true
@@ -75,30 +74,29 @@ built_trees schema = record {
 
 -- ---- no sublinks
 
-abbrev pub Unplaced : Scope → Ty → Places → Type 0
-Unplaced scope t places = places ≡ none_placed
+abbrev pub Unoccupied : Scope → Ty → List Occurrence → Type 0
+Unoccupied scope t found = found ≡ []
 
-abbrev pub TreeUnplaced : ℕ → Scope → Places → Type 0
-TreeUnplaced first scope places = places ≡ none_placed
+abbrev pub TreeUnoccupied : ℕ → Scope → List Occurrence → Type 0
+TreeUnoccupied first scope found = found ≡ []
 
-pub none_together : (ps : List Places) → Each (λ p. p ≡ none_placed) ps → placed_together ps ≡ none_placed
-none_together = each_neutral placed_beside none_placed refl
+pub none_from : (i : ℕ) (parts : List (List Occurrence)) → Each (λ found. found ≡ []) parts → from_parts i parts ≡ []
+none_from i [] each = refl
+none_from i (part ∷ parts) each = ap (λ found. map (below i) found ++ from_parts (i + 1) parts) each.0 ∙ none_from (i + 1) parts each.1
 
-pub unplaced_steps : ExprSteps Places Places Places Places Places expr_places tree_places order_places output_places query_places Unplaced
-unplaced_steps = record {
+pub unoccupied_steps : ExprSteps (List Occurrence) (List Occurrence) (List Occurrence) (List Occurrence) (List Occurrence) expr_occurrences tree_occurrences order_occurrences output_occurrences query_occurrences Unoccupied
+unoccupied_steps = record {
   at_column = λ scope rel place small there. refl;
   at_literal = λ scope n h. refl;
-  at_comparison = λ scope op t left right l r. none_together (left ∷ right ∷ []) (l, (r, tt));
-  at_conjunction = λ scope members some each. none_together members each;
-  at_disjunction = λ scope members some each. none_together members each;
-  at_negation = λ scope operand p. none_together (operand ∷ []) (p, tt);
-  at_test = λ scope negated t operand p. none_together (operand ∷ []) (p, tt);
+  at_comparison = λ scope op t left right l r. none_from 0 (left ∷ right ∷ []) (l, (r, tt));
+  at_conjunction = λ scope members some each. none_from 0 members each;
+  at_disjunction = λ scope members some each. none_from 0 members each;
+  at_negation = λ scope operand p. none_from 0 (operand ∷ []) (p, tt);
+  at_test = λ scope negated t operand p. none_from 0 (operand ∷ []) (p, tt);
 }
 
-pub unplaced_trees : (schema : Schema) → TreeSteps Places Places Places Places Places expr_places tree_places order_places output_places query_places schema Unplaced TreeUnplaced
-unplaced_trees schema = record {
+pub unoccupied_trees : (schema : Schema) → TreeSteps (List Occurrence) (List Occurrence) (List Occurrence) (List Occurrence) (List Occurrence) expr_occurrences tree_occurrences order_occurrences output_occurrences query_occurrences schema Unoccupied TreeUnoccupied
+unoccupied_trees schema = record {
   at_table = λ rel place name columns small there. refl;
-  at_join = λ kind first a b left right on numbered l r each.
-      ap (λ x. placed_elsewhere (placed_beside (placed_beside x (placed_together on)) none_placed)) (none_together (left ∷ right ∷ []) (l, (r, tt)))
-      ∙ ap (λ x. placed_elsewhere (placed_beside (placed_beside none_placed x) none_placed)) (none_together on each);
+  at_join = λ kind first a b left right on numbered l r each. none_from 0 (left ∷ right ∷ on) (l, (r, each));
 }

@@ -11,18 +11,17 @@ use Rattle.jp_query.specs.declared.JoinTree.{JoinTree}
 use Rattle.jp_query.specs.declared.Output.{Output}
 use Rattle.jp_query.specs.declared.Query.{Query}
 use Rattle.jp_query.specs.declared.Expr.TheOpen.{Expr-F, JoinTree-F}
-use Rattle.jp_query.specs.Conditions.{Tests, Judged, passes_in, expr_judged, tree_judged, order_judged, output_judged, query_judged, judged_query, has_type, all_true, relation_of, has_leaves, leaves_of, knows_columns, knows_placeholders, tells_relations_apart, keeps_bounds, Leaves, no_leaves, beside, together, expr_leaves, tree_leaves, order_leaves, output_leaves, query_leaves, expr_rooted, tree_rooted, order_rooted, output_rooted, query_rooted, IsTyped, IsBounded}
+use Rattle.jp_query.specs.Conditions.{Tests, Judged, passes_in, expr_judged, tree_judged, order_judged, output_judged, query_judged, judged_query, has_type, all_true, relation_of, has_leaves, judged_leaves, knows_columns, knows_placeholders, tells_relations_apart, keeps_bounds, Leaves, no_leaves, beside, together, expr_leaves, tree_leaves, order_leaves, output_leaves, query_leaves, expr_rooted, tree_rooted, order_rooted, output_rooted, query_rooted, IsTyped, IsBounded}
 use Rattle.jp_query.specs.Typing.{Typed, TypedOutput, TypedQuery, is_of, output_is_typed, are_conditions, expr_type, tree_typed, order_typed, output_typed, query_typed, typed_query}
-use Rattle.jp_query.specs.Freshness.{Places, none_placed, placed_beside, placed_together, placed_elsewhere, placed_in_list, expr_places, tree_places, order_places, output_places, query_places, places_of, IsFresh, Sublink, sublinks_in}
-use Rattle.jp_query.specs.Parts.{all_in, expr_gives, tree_gives, order_gives, output_gives, query_gives, gathered_in_query, nothing_of_node, nothing_of_leaf, placeholder_of, leaf_number, base_number, base_table}
+use Rattle.jp_query.specs.Freshness.{Occurrence, from_parts, listed_here, expr_occurrences, tree_occurrences, order_occurrences, output_occurrences, query_occurrences, occurrences_in, may_stand, each_pair, IsFresh, Sublink, sublinks_in}
+use Rattle.jp_query.specs.Parts.{all_in, expr_gives, tree_gives, order_gives, output_gives, query_gives, gathered_in_query, nothing_of_node, nothing_of_leaf, node_placeholder, leaf_number, base_number, base_table}
 use Rattle.jp_query.specs.Refs.{only, union}
 use Rattle.jp_query.specs.Scopes.{Scope, Schema, Column, Entry}
-use Rattle.jp_eval.specs.Evaluable.{evaluable_level}
-use Rattle.jp_naive.specs.Built.{tree_built, order_built, output_built, query_built, IsBuilt}
+use Rattle.jp_query.specs.Evaluable.{evaluable_level, tree_built, order_built, output_built, query_built, IsBuilt}
 use Rattle.jp_resolve.proofs.Plain.{Numbered, Plains, Joined}
 use Rattle.jp_resolve.proofs.Steps.{Each, each_true}
 use Rattle.jp_resolve.proofs.TypedFacts.{HasType, TreeTyped, same_self, all_booleans, typed_steps, typed_trees}
-use Rattle.jp_resolve.proofs.SimpleFacts.{Passes, TreePasses, all_pass, rooted_steps, rooted_trees, built_steps, built_trees, Unplaced, TreeUnplaced, none_together, unplaced_steps, unplaced_trees}
+use Rattle.jp_resolve.proofs.SimpleFacts.{Passes, TreePasses, all_pass, rooted_steps, rooted_trees, built_steps, built_trees, Unoccupied, TreeUnoccupied, none_from, unoccupied_steps, unoccupied_trees}
 use Rattle.jp_resolve.proofs.JudgedFacts.{Takes, Good, TreeGood, each_passes, judged_steps, judged_trees}
 use Rattle.jp_resolve.proofs.LeafFacts as leaf
 use Rattle.jp_resolve.proofs.GatheredFacts.{Sources, Nothing, TreeGives, all_nothing, gathered_steps, gathered_trees, AreNumbers, AreNone, AreTables, placeholder_sources, leaf_sources, base_sources, table_sources}
@@ -61,17 +60,17 @@ module _ (schema : Schema) (scope : Scope) (source : JoinTree) (conds : List Exp
     QueryPasses q = q.passes [] ≡ true
 
     inner_passes : (outputs : List (Judged Column)) (members : List (Judged ℕ)) → Each (OutputPasses scope) outputs → Each (λ (j : Judged ℕ). j.passes scope ≡ true) members
-        → (inner : Scope) → inner ≡ scope → (tests.place inner && (list_all (passes_in inner) outputs && (list_all (passes_in inner) members && true))) ≡ true
+        → (inner : Scope) → inner ≡ scope → (tests.scope inner && (list_all (passes_in inner) outputs && (list_all (passes_in inner) members && true))) ≡ true
     inner_passes outputs members os ms inner same =
-        ap (λ s. tests.place s && (list_all (passes_in s) outputs && (list_all (passes_in s) members && true))) same
-        ∙ and_from (tests.place scope) (list_all (passes_in scope) outputs && (list_all (passes_in scope) members && true)) (takes.places 0 scope numbered)
+        ap (λ s. tests.scope s && (list_all (passes_in s) outputs && (list_all (passes_in s) members && true))) same
+        ∙ and_from (tests.scope scope) (list_all (passes_in scope) outputs && (list_all (passes_in scope) members && true)) (takes.scopes 0 scope numbered)
         (and_from (list_all (passes_in scope) outputs) (list_all (passes_in scope) members && true) (each_passes schema tests takes scope outputs os)
         (ap (λ b. b && true) (each_passes schema tests takes scope members ms)))
 
-    from_passes : (tree : Judged (List Entry)) → tree.passes [] ≡ true → (inner : Scope) → inner ≡ scope → (tests.place inner && (true && ((tree.passes [] && true) && true))) ≡ true
+    from_passes : (tree : Judged (List Entry)) → tree.passes [] ≡ true → (inner : Scope) → inner ≡ scope → (tests.scope inner && (true && ((tree.passes [] && true) && true))) ≡ true
     from_passes tree p inner same =
-        ap (λ s. tests.place s && (true && ((tree.passes [] && true) && true))) same
-        ∙ and_from (tests.place scope) ((tree.passes [] && true) && true) (takes.places 0 scope numbered) (ap (λ b. (b && true) && true) p)
+        ap (λ s. tests.scope s && (true && ((tree.passes [] && true) && true))) same
+        ∙ and_from (tests.scope scope) ((tree.passes [] && true) && true) (takes.scopes 0 scope numbered) (ap (λ b. (b && true) && true) p)
 
     visible : (tree : Judged (List Entry)) → tree.value [] ≡ scope → (tree.value [] ++ []) ++ [] ≡ scope
     visible tree v = append-nil (tree.value [] ++ []) ∙ append-nil (tree.value []) ∙ v
@@ -81,8 +80,8 @@ module _ (schema : Schema) (scope : Scope) (source : JoinTree) (conds : List Exp
         schema (Good schema tests takes) (TreeGood schema tests takes) OutputPasses (judged_steps schema tests takes) (judged_trees schema tests takes)
         (λ s name type x p. p)
         QueryPasses scope source conds columns
-        (λ outputs tree members os t ms. and_from (tests.place ((tree.value [] ++ []) ++ []) && (true && ((tree.passes [] && true) && true)))
-        (tests.place ((tree.value [] ++ []) ++ []) && (list_all (passes_in ((tree.value [] ++ []) ++ [])) outputs && (list_all (passes_in ((tree.value [] ++ []) ++ [])) members && true)))
+        (λ outputs tree members os t ms. and_from (tests.scope ((tree.value [] ++ []) ++ []) && (true && ((tree.passes [] && true) && true)))
+        (tests.scope ((tree.value [] ++ []) ++ []) && (list_all (passes_in ((tree.value [] ++ []) ++ [])) outputs && (list_all (passes_in ((tree.value [] ++ []) ++ [])) members && true)))
         (from_passes tree t.1 ((tree.value [] ++ []) ++ []) (visible tree t.0))
         (inner_passes outputs members os ms ((tree.value [] ++ []) ++ []) (visible tree t.0)))
         tree_of conds_of columns_of
@@ -105,7 +104,7 @@ module _ (schema : Schema) (scope : Scope) (source : JoinTree) (conds : List Exp
       ∙ ap (λ x. beside x no_leaves) (leaf.beside_none scope)
       ∙ leaf.beside_none scope
 
-  apart : (leaves_of query).apart ≡ true
+  apart : (judged_leaves query).apart ≡ true
   apart = query_has Leaves Leaves Leaves Leaves Leaves expr_leaves tree_leaves order_leaves output_leaves query_leaves schema leaf.Leafless leaf.TreeLeaves OutputLeafless leaf.leaf_steps (leaf.leaf_trees schema)
       (λ s name type x p. p)
       QueryLeaves scope source conds columns
@@ -162,30 +161,24 @@ module _ (schema : Schema) (scope : Scope) (source : JoinTree) (conds : List Exp
 
   -- ---- no sublinks
 
-  abbrev OutputUnplaced : Scope → Places → Type 0
-  OutputUnplaced scope places = places ≡ none_placed
+  abbrev OutputUnoccupied : Scope → List Occurrence → Type 0
+  OutputUnoccupied scope found = found ≡ []
 
-  abbrev QueryPlaced : Places → Type 0
-  QueryPlaced places = places.elsewhere ≡ true
+  abbrev QueryPlaced : List Occurrence → Type 0
+  QueryPlaced found = each_pair may_stand found ≡ true
 
-  abbrev from_places : Places → Places
-  from_places tree = placed_elsewhere (placed_beside (placed_beside (placed_beside none_placed tree) none_placed) none_placed)
-
-  abbrev whole_places : Places → Places → Places → Places
-  whole_places outputs tree members = placed_elsewhere (placed_beside (placed_beside (placed_in_list (placed_beside outputs none_placed)) tree) members)
-
-  none_whole : (outputs : List Places) (tree : Places) (members : List Places) → Each (OutputUnplaced scope) outputs → tree ≡ none_placed → Each (λ p. p ≡ none_placed) members
-      → whole_places (placed_together outputs) (from_places tree) (placed_together members) ≡ none_placed
+  none_whole : (outputs : List (List Occurrence)) (tree : List Occurrence) (members : List (List Occurrence)) → Each (OutputUnoccupied scope) outputs → tree ≡ [] → Each (λ found. found ≡ []) members
+      → map listed_here (from_parts 0 (outputs ++ [])) ++ from_parts (length (outputs ++ [])) (from_parts 0 (tree ∷ []) ∷ members) ≡ []
   none_whole outputs tree members os t ms =
-      ap (λ x. whole_places x (from_places tree) (placed_together members)) (none_together outputs os)
-      ∙ ap (λ x. whole_places none_placed (from_places x) (placed_together members)) t
-      ∙ ap (λ x. whole_places none_placed none_placed x) (none_together members ms)
+      ap (λ (xs : List (List Occurrence)). map listed_here (from_parts 0 xs) ++ from_parts (length xs) (from_parts 0 (tree ∷ []) ∷ members)) (append-nil outputs)
+      ∙ ap (λ found. map listed_here found ++ from_parts (length outputs) (from_parts 0 (tree ∷ []) ∷ members)) (none_from 0 outputs os)
+      ∙ none_from (length outputs) (from_parts 0 (tree ∷ []) ∷ members) (none_from 0 (tree ∷ []) (t, tt), ms)
 
-  placed : (places_of query).elsewhere ≡ true
-  placed = query_has Places Places Places Places Places expr_places tree_places order_places output_places query_places schema Unplaced TreeUnplaced OutputUnplaced unplaced_steps (unplaced_trees schema)
+  placed : each_pair may_stand (occurrences_in query) ≡ true
+  placed = query_has (List Occurrence) (List Occurrence) (List Occurrence) (List Occurrence) (List Occurrence) expr_occurrences tree_occurrences order_occurrences output_occurrences query_occurrences schema Unoccupied TreeUnoccupied OutputUnoccupied unoccupied_steps (unoccupied_trees schema)
       (λ s name type x p. p)
       QueryPlaced scope source conds columns
-      (λ outputs tree members os t ms. ap (λ (p : Places). p.elsewhere) (none_whole outputs tree members os t ms))
+      (λ outputs tree members os t ms. ap (each_pair may_stand) (none_whole outputs tree members os t ms))
       tree_of conds_of columns_of
 
   -- ---- the conditions
@@ -196,17 +189,17 @@ module _ (schema : Schema) (scope : Scope) (source : JoinTree) (conds : List Exp
     numbers_of_columns = refl;
     literals = λ bound h. refl;
     columns = λ s rel place there. ap (λ c. has_type c ty.Number) there;
-    places = λ first s n. refl;
+    scopes = λ first s n. refl;
   }
 
   knows_placeholders_takes : Takes knows_placeholders
-  knows_placeholders_takes = record { zero = refl; numbers_of_columns = refl; literals = λ bound h. refl; columns = λ s rel place there. refl; places = λ first s n. refl }
+  knows_placeholders_takes = record { zero = refl; numbers_of_columns = refl; literals = λ bound h. refl; columns = λ s rel place there. refl; scopes = λ first s n. refl }
 
   tells_relations_apart_takes : Takes tells_relations_apart
-  tells_relations_apart_takes = record { zero = refl; numbers_of_columns = refl; literals = λ bound h. refl; columns = λ s rel place there. refl; places = λ first s n. distinct first s n }
+  tells_relations_apart_takes = record { zero = refl; numbers_of_columns = refl; literals = λ bound h. refl; columns = λ s rel place there. refl; scopes = λ first s n. distinct first s n }
 
   keeps_bounds_takes : Takes keeps_bounds
-  keeps_bounds_takes = record { zero = refl; numbers_of_columns = refl; literals = λ bound h. h; columns = λ s rel place there. refl; places = λ first s n. refl }
+  keeps_bounds_takes = record { zero = refl; numbers_of_columns = refl; literals = λ bound h. h; columns = λ s rel place there. refl; scopes = λ first s n. refl }
 
   -- at most twelve relations, with consecutive numbers from 0
   module _ (numbered : Numbered 0 scope) (short : length scope ≤ 12) where
@@ -242,7 +235,7 @@ module _ (schema : Schema) (scope : Scope) (source : JoinTree) (conds : List Exp
 
     pub fresh : IsFresh query
     fresh = record {
-      placeholders = gathered placeholder_of nothing_of_leaf AreNone (placeholder_sources schema);
+      placeholders = gathered node_placeholder nothing_of_leaf AreNone (placeholder_sources schema);
       numbers = subst (All HasSubNumber) (sym none) (All-nil HasSubNumber);
       leaves = subst (All Free) (sym (gathered nothing_of_node leaf_number AreNumbers (leaf_sources schema))) free;
       equal = λ a b in_a in_b same. absurd (in_none a in_a);

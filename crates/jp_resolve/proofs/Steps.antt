@@ -13,7 +13,7 @@ use Rattle.jp_query.specs.declared.Expr.TheOpen.{Expr-F, JoinTree-F, Order-F, Ou
 use Rattle.jp_query.specs.declared.Expr.TheFolds.{fold-Expr, fold-JoinTree}
 use Rattle.jp_query.specs.Conditions.{fits}
 use Rattle.jp_query.specs.Typing.{is_listed}
-use Rattle.jp_query.specs.Scopes.{Column, Scope, Schema, column_at}
+use Rattle.jp_query.specs.Scopes.{Column, Scope, Schema, visible_column}
 use Rattle.jp_query.proofs.FoldLaws as laws
 use Rattle.jp_resolve.proofs.Plain.{numbers, null_test, inner_or_left, Numbered, Plain, column, literal, comparison, conjunction, disjunction, negation, test, Plains, none, more, Joined, table, joined}
 
@@ -33,7 +33,7 @@ each_neutral op neutral e (x ∷ xs) each = ap (λ y. fold op (op neutral y) xs)
 module _ (A B C D F : Type 0) (e : Expr-F A B C D F → A) (t : JoinTree-F A B C D F → B) (o : Order-F A B C D F → C) (u : Output-F A B C D F → D) (q : Query-F A B C D F → F) where
   module _ (P : Scope → Ty → A → Type 0) where
     pub record ExprSteps : Type 0 where
-      pub at_column : (scope : Scope) (rel place : ℕ) → rel < 64 → column_at scope rel place ≡ Some numbers → P scope ty.Number (e (Expr-F.Col rel place ty.Number 0))
+      pub at_column : (scope : Scope) (rel place : ℕ) → rel < 64 → visible_column scope rel place ≡ Some numbers → P scope ty.Number (e (Expr-F.Col rel place ty.Number 0))
       pub at_literal : (scope : Scope) (n : ℤ) → fits (nat_abs n) ≡ true → P scope ty.Number (e (Expr-F.Lit (value.Num n) ty.Number))
       pub at_comparison : (scope : Scope) (op : CmpOp) (type : Ty) (left right : A) → P scope type left → P scope type right → P scope ty.Boolean (e (Expr-F.Compare op left right))
       pub at_conjunction : (scope : Scope) (members : List A) → is_listed members ≡ true → Each (P scope ty.Boolean) members → P scope ty.Boolean (e (Expr-F.And members))

@@ -1,19 +1,19 @@
 -- What a fold over the syntax tree gives at each constructor that resolution takes: its step on that level, with each
 -- child replaced by the fold's value of it.
 use Rattle.std.proofs.Common.{◌≡◌, ◌∙◌, ap, sym, refl, ℕ, ℤ, Bool, List, map, Option, Some, None}
-use Rattle.jp_parse.specs.declared.tree.Ast.{Ast}
-use Rattle.jp_parse.specs.declared.tree.FromItem.{FromItem}
-use Rattle.jp_parse.specs.declared.tree.Target.{Target}
-use Rattle.jp_parse.specs.declared.tree.Select.{Select, out-Select}
-use Rattle.jp_parse.specs.declared.tree.CmpWord.{CmpWord}
-use Rattle.jp_parse.specs.declared.tree.IsWord.{IsWord}
-use Rattle.jp_parse.specs.declared.tree.JoinWord.{JoinWord}
-use Rattle.jp_parse.specs.declared.tree.Ast.TheVariants as ast
-use Rattle.jp_parse.specs.declared.tree.FromItem.TheVariants as item
-use Rattle.jp_parse.specs.declared.tree.Target.TheVariants as target
-use Rattle.jp_parse.specs.declared.tree.Ast.TheOpen.{Ast-F, FromItem-F, Target-F, Select-F}
-use Rattle.jp_parse.specs.declared.tree.Ast.TheFolds.{fold-Ast, fold-FromItem, fold-Target, fold-Select, fold-roll-Ast, fold-roll-FromItem, fold-roll-Target, fold_out-Select}
-use Rattle.jp_parse.specs.declared.tree.Ast.TheShapes.{former-FromItem-Join-3}
+use Rattle.jp_ast.specs.declared.tree.Ast.{Ast}
+use Rattle.jp_ast.specs.declared.tree.FromItem.{FromItem}
+use Rattle.jp_ast.specs.declared.tree.Target.{Target}
+use Rattle.jp_ast.specs.declared.tree.Select.{Select, out-Select}
+use Rattle.jp_ast.specs.declared.tree.CmpWord.{CmpWord}
+use Rattle.jp_ast.specs.declared.tree.IsWord.{IsWord}
+use Rattle.jp_ast.specs.declared.tree.JoinWord.{JoinWord}
+use Rattle.jp_ast.specs.declared.tree.Ast.TheVariants as ast
+use Rattle.jp_ast.specs.declared.tree.FromItem.TheVariants as item
+use Rattle.jp_ast.specs.declared.tree.Target.TheVariants as target
+use Rattle.jp_ast.specs.declared.tree.Ast.TheOpen.{Ast-F, FromItem-F, Target-F, Select-F}
+use Rattle.jp_ast.specs.declared.tree.Ast.TheFolds.{fold-Ast, fold-FromItem, fold-Target, fold-Select, fold-roll-Ast, fold-roll-FromItem, fold-roll-Target, fold_out-Select}
+use Rattle.jp_ast.specs.declared.tree.Ast.TheShapes.{former-FromItem-Join-3}
 use Rattle.std.specs.Option.{option_map}
 
 -- the map over a condition that may be missing

@@ -4,14 +4,14 @@ use Rattle.std.specs.Prelude.{◌≡◌, ◌⊎◌, ℕ, ◌-◌, nat_le, Bool, 
 use Rattle.jp_base.specs.declared.values.Ty.TheVariants as ty
 use Rattle.jp_catalog.specs.declared.types.Catalog.{Catalog}
 use Rattle.jp_catalog.specs.declared.types.TableDef.{TableDef}
-use Rattle.jp_parse.specs.declared.tree.Ast.{Ast}
-use Rattle.jp_parse.specs.declared.tree.Ast.TheFolds.{fold-Target, fold-Select}
-use Rattle.jp_parse.specs.declared.tree.FromItem.{FromItem}
-use Rattle.jp_parse.specs.declared.tree.Target.{Target}
-use Rattle.jp_parse.specs.declared.tree.Select.{Select}
-use Rattle.jp_parse.specs.declared.tree.CmpWord.{CmpWord}
-use Rattle.jp_parse.specs.declared.tree.IsWord.{IsWord}
-use Rattle.jp_parse.specs.declared.tree.IsWord.TheVariants as word
+use Rattle.jp_ast.specs.declared.tree.Ast.{Ast}
+use Rattle.jp_ast.specs.declared.tree.Ast.TheFolds.{fold-Target, fold-Select}
+use Rattle.jp_ast.specs.declared.tree.FromItem.{FromItem}
+use Rattle.jp_ast.specs.declared.tree.Target.{Target}
+use Rattle.jp_ast.specs.declared.tree.Select.{Select}
+use Rattle.jp_ast.specs.declared.tree.CmpWord.{CmpWord}
+use Rattle.jp_ast.specs.declared.tree.IsWord.{IsWord}
+use Rattle.jp_ast.specs.declared.tree.IsWord.TheVariants as word
 use Rattle.jp_query.specs.declared.IsTest.{IsTest}
 use Rattle.jp_query.specs.declared.IsTest.TheVariants as is
 use Rattle.jp_query.specs.declared.Expr.{Expr}

@@ -17,12 +17,12 @@ pub record Column : Type 0 where
   pub place : ℕ
   pub type : Ty
 
-abbrev pub column_at : Entry → ℕ → Option Column
-column_at entry place = option_map (λ column. record { relation = entry.relation; place = place; type = column.1 }) (slice_get entry.columns place)
+abbrev pub entry_column : Entry → ℕ → Option Column
+entry_column entry place = option_map (λ column. record { relation = entry.relation; place = place; type = column.1 }) (slice_get entry.columns place)
 
 -- the column of this name that the entry has
-abbrev pub column_in : List ℕ → Entry → Option Column
-column_in name entry = option_and_then (column_at entry) (place_of name entry.columns)
+abbrev pub column_named : List ℕ → Entry → Option Column
+column_named name entry = option_and_then (entry_column entry) (place_of name entry.columns)
 
 -- the first entry of a name; the entries of one FROM list have different names
 abbrev pub entry_of : List ℕ → List Entry → Option Entry
@@ -31,7 +31,7 @@ entry_of name (entry ∷ entries) = if bytes_eq name entry.name then Some entry 
 
 -- `qualifier.name`: the column of that name of the entry that has the qualifier
 unfoldable pub qualified_column : List Entry → List ℕ → List ℕ → Option Column
-qualified_column entries qualifier name = option_and_then (column_in name) (entry_of qualifier entries)
+qualified_column entries qualifier name = option_and_then (column_named name) (entry_of qualifier entries)
 
 -- all columns of a name
 abbrev pub with_column : Option Column → List Column → List Column
@@ -40,7 +40,7 @@ with_column None columns = columns
 
 abbrev pub columns_named : List ℕ → List Entry → List Column
 columns_named name [] = []
-columns_named name (entry ∷ entries) = with_column (column_in name entry) (columns_named name entries)
+columns_named name (entry ∷ entries) = with_column (column_named name entry) (columns_named name entries)
 
 abbrev pub the_only : {A : Type 0} → List A → Option A
 the_only (x ∷ []) = Some x

@@ -7,16 +7,16 @@ use Rattle.jp_base.specs.declared.values.Value.TheVariants as value
 use Rattle.jp_catalog.specs.declared.types.Catalog.{Catalog}
 use Rattle.jp_catalog.specs.declared.types.TableDef.{TableDef}
 use Rattle.jp_catalog.specs.Names.{place_of}
-use Rattle.jp_parse.specs.declared.tree.Stmt.{Stmt}
-use Rattle.jp_parse.specs.declared.tree.Ast.{Ast}
-use Rattle.jp_parse.specs.declared.tree.FromItem.{FromItem}
-use Rattle.jp_parse.specs.declared.tree.Ast.TheOpen.{Ast-F, FromItem-F, Target-F, Select-F}
-use Rattle.jp_parse.specs.declared.tree.Ast.TheFolds.{fold-Ast, fold-FromItem, fold-Select}
-use Rattle.jp_parse.specs.declared.tree.CmpWord.{CmpWord}
-use Rattle.jp_parse.specs.declared.tree.CmpWord.TheVariants as word
-use Rattle.jp_parse.specs.declared.tree.IsWord.TheVariants as test
-use Rattle.jp_parse.specs.declared.tree.JoinWord.{JoinWord}
-use Rattle.jp_parse.specs.declared.tree.JoinWord.TheVariants as kind
+use Rattle.jp_ast.specs.declared.tree.Stmt.{Stmt}
+use Rattle.jp_ast.specs.declared.tree.Ast.{Ast}
+use Rattle.jp_ast.specs.declared.tree.FromItem.{FromItem}
+use Rattle.jp_ast.specs.declared.tree.Ast.TheOpen.{Ast-F, FromItem-F, Target-F, Select-F}
+use Rattle.jp_ast.specs.declared.tree.Ast.TheFolds.{fold-Ast, fold-FromItem, fold-Select}
+use Rattle.jp_ast.specs.declared.tree.CmpWord.{CmpWord}
+use Rattle.jp_ast.specs.declared.tree.CmpWord.TheVariants as word
+use Rattle.jp_ast.specs.declared.tree.IsWord.TheVariants as test
+use Rattle.jp_ast.specs.declared.tree.JoinWord.{JoinWord}
+use Rattle.jp_ast.specs.declared.tree.JoinWord.TheVariants as kind
 use Rattle.jp_query.specs.declared.CmpOp.{CmpOp}
 use Rattle.jp_query.specs.declared.CmpOp.TheVariants as cmp
 use Rattle.jp_query.specs.declared.IsTest.TheVariants as is

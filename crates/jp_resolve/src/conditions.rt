@@ -7,7 +7,7 @@ ghost use Rattle.jp_resolve.specs.Views.{shown};
 use crate::ResolveError;
 use crate::entries::Entry;
 use crate::expressions::{boolean, push};
-use jp_parse::Ast;
+use jp_ast::Ast;
 use jp_query::Expr;
 use sqlite_items::Items;
 use std::alloc::Global;

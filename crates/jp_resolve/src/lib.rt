@@ -4,7 +4,7 @@
 
 ghost use Rattle.std.specs.Prelude.{[], IfOk};
 ghost use Rattle.jp_catalog.specs.Sound.{IsSound};
-ghost use Rattle.jp_naive.specs.Built.{IsBuilt};
+ghost use Rattle.jp_query.specs.Evaluable.{IsBuilt};
 ghost use Rattle.jp_query.specs.Conditions.{IsBounded, IsTyped};
 ghost use Rattle.jp_query.specs.Freshness.{IsFresh};
 ghost use Rattle.jp_resolve.specs.Resolving.{Agrees, query_of};
@@ -17,12 +17,10 @@ mod expressions;
 mod from_items;
 mod lookups;
 mod selects;
-#[cfg(test)]
-mod tests;
 
 pub use error::ResolveError;
+use jp_ast::Stmt;
 use jp_catalog::Catalog;
-use jp_parse::Stmt;
 use jp_query::Query;
 use selects::select_query;
 use std::alloc::Global;

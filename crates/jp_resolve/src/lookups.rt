@@ -1,5 +1,5 @@
 ghost use Rattle.std.specs.Prelude.{◌≡◌, map, option_map};
-ghost use Rattle.jp_resolve.specs.Names.{qualified_column, unqualified_column, have_distinct_names, entry_of, column_in};
+ghost use Rattle.jp_resolve.specs.Names.{qualified_column, unqualified_column, have_distinct_names, entry_of, column_named};
 ghost use Rattle.jp_resolve.specs.Views.{shown, found};
 
 use crate::entries::{Column, Entry};
@@ -10,7 +10,7 @@ pub fn qualified_column(entries: &[Entry<'_>], qualifier: &str, name: &str) -> O
     ensures { option_map found result ≡ qualified_column (map shown entries.now) qualifier.now name.now }
 {
     let entry = entry_of(entries, qualifier)?;
-    let column = column_in(&entry, name)?;
+    let column = column_named(&entry, name)?;
     Some(column)
 }
 
@@ -21,7 +21,7 @@ pub fn unqualified_column(entries: &[Entry<'_>], name: &str) -> Option<Column>
 {
     let mut only = None;
     'entries: for entry in entries {
-        match column_in(entry, name) {
+        match column_named(entry, name) {
             Some(column) => match only {
                 Some(_) => return None,
                 None => only = Some(column),
@@ -58,8 +58,8 @@ fn entry_of<'a>(entries: &[Entry<'a>], name: &str) -> Option<Entry<'a>>
 }
 
 /// The column of this name that the entry has.
-fn column_in(entry: &Entry<'_>, name: &str) -> Option<Column>
-    ensures { option_map found result ≡ column_in name.now (shown entry.now) }
+fn column_named(entry: &Entry<'_>, name: &str) -> Option<Column>
+    ensures { option_map found result ≡ column_named name.now (shown entry.now) }
 {
     let place = entry.columns.position(name)?;
     let (_, ty) = entry.columns.get_index(place)?;

@@ -1,4 +1,4 @@
-use Rattle.jp_query.specs.Scopes.{rows_of_tables}
+use Rattle.jp_query.specs.Tables.{rows_of_tables}
 use Rattle.jp_naive.specs.Tuples.{envs_in}
 use Rattle.jp_naive.proofs.QueryLaws.{query_parts, typed_tree, rows_mean}
 use Rattle.jp_naive.proofs.meaning_of.Goals as goal

@@ -1,7 +1,7 @@
-use Rattle.jp_placeholder.proofs.PresentLemmas.{by_least}
+use Rattle.jp_placeholder.proofs.PresentLemmas.{by_meeting}
 use Rattle.jp_placeholder.proofs.value_is_null.Goals as goal
 
 pub returns : goal.returns
 returns c =
-    let exact = by_least c.args.place c.args.present c.minus.result c.minus-there.result c.first.result c.is_none.result c.minus.ensures c.minus-there.ensures c.first.ensures.none c.first.ensures.least c.first.ensures.below c.is_none.ensures in
+    let exact = by_meeting c.args.rels c.args.present c.meets.result c.meets.ensures.members c.meets.ensures.below.0 in
     record { members = exact.0; placeholder = exact.1 }

@@ -1,7 +1,6 @@
 use Rattle.std.proofs.Common.{◌<◌, arith, length, subst, sym}
 use Rattle.std.proofs.lemmas.List.{length-map}
-use Rattle.jp_naive.specs.Built.{IsLoaded}
-use Rattle.jp_query.specs.Scopes.{Belong}
+use Rattle.jp_query.specs.Tables.{IsLoaded, Belong}
 use Rattle.jp_resolve.specs.Schemas.{schema_of, table_columns}
 use Rattle.joinplan.specs.Answers.{NamedTable}
 use Rattle.joinplan.specs.Mentions.{KeysKept}

@@ -2,7 +2,7 @@ use Rattle.std.proofs.Common.{◌∙◌, Ok, Err, arith, subst, sym, get_or}
 use Rattle.std.proofs.lemmas.Option.{slice_get-get_or}
 use Rattle.std.proofs.lemmas.Result.{err_from_is_err_and}
 use Rattle.std.proofs.lemmas.List.Elements.{All-weaker}
-use Rattle.jp_naive.specs.Built.{IsLoaded}
+use Rattle.jp_query.specs.Tables.{IsLoaded}
 use Rattle.joinplan.specs.Answers.{with_table}
 use Rattle.joinplan.specs.Readings.{AgreesTold, fold_in}
 use Rattle.joinplan.proofs.ReadingLemmas.{given_until, one_more_given, told_on, told_shown}

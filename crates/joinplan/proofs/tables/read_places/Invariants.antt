@@ -1,8 +1,7 @@
 use Rattle.std.proofs.Common.{◌≡◌, take}
 use Rattle.std.specs.Prelude.{All}
 use Rattle.jp_io.specs.Files.{NoneFalls}
-use Rattle.jp_naive.specs.Built.{IsLoaded}
-use Rattle.jp_query.specs.Scopes.{Belong}
+use Rattle.jp_query.specs.Tables.{IsLoaded, Belong}
 use Rattle.jp_resolve.specs.Schemas.{schema_of}
 use Rattle.joinplan.specs.Answers.{with_table}
 use Rattle.joinplan.specs.Mentions.{KeysKept}

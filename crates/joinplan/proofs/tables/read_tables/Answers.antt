@@ -2,11 +2,9 @@ use Rattle.std.proofs.Common.{◌≡◌, ◌<◌, Ok, Err, length, subst, subst�
 use Rattle.std.proofs.lemmas.Result.{err_from_is_err_and}
 use Rattle.std.specs.Prelude.{All}
 use Rattle.jp_query.specs.Parts.{tables_in}
-use Rattle.jp_query.specs.Scopes.{Belong}
-use Rattle.jp_naive.specs.Built.{IsLoaded}
+use Rattle.jp_query.specs.Tables.{Belong, IsLoaded, TableRows}
 use Rattle.jp_resolve.specs.Schemas.{schema_of}
 use Rattle.joinplan.proofs.MentionLemmas.{mentions_pushed}
-use Rattle.jp_naive.specs.Built.{TableRows}
 use Rattle.joinplan.specs.Answers.{tables_read, with_table}
 use Rattle.joinplan.specs.Mentions.{KeysKept}
 use Rattle.joinplan.specs.Readings.{AgreesTold, fold_in}

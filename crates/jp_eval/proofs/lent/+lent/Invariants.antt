@@ -1,6 +1,6 @@
 use Rattle.std.proofs.Common.{◌≡◌, map, take}
 use Rattle.jp_query.specs.Operators.{all_of, any_of}
-use Rattle.jp_eval.specs.Evaluable.{truth_in}
+use Rattle.jp_eval.specs.Truths.{truth_in}
 use Rattle.jp_eval.proofs.lent.+lent.Given as goal
 
 abbrev pub invariant-conjunction-loop-member : goal.invariant-conjunction-loop-member

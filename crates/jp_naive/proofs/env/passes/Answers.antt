@@ -1,7 +1,7 @@
 use Rattle.std.proofs.Common.{◌∙◌, sym, ap}
 use Rattle.jp_query.specs.Operators.{is_true}
-use Rattle.jp_query.specs.Scopes.{rows_of_tables}
-use Rattle.jp_naive.specs.Built.{expr_is_built}
+use Rattle.jp_query.specs.Tables.{rows_of_tables}
+use Rattle.jp_query.specs.Evaluable.{expr_is_built}
 use Rattle.jp_naive.specs.Tuples.{env_of}
 use Rattle.jp_naive.proofs.ListFacts.{one_of_all, not_true, cond_fails, cond_holds}
 use Rattle.jp_naive.proofs.TakesLaw.{takes_it}

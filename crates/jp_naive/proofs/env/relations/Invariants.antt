@@ -1,7 +1,7 @@
 use Rattle.std.proofs.Common.{ℕ, ◌<◌}
 use Rattle.std.specs.Prelude.{◌↔◌, IsSome}
 use Rattle.jp_base.specs.Sets.{Has}
-use Rattle.jp_naive.specs.Built.{TableRows}
+use Rattle.jp_query.specs.Tables.{TableRows}
 use Rattle.jp_naive.specs.Tuples.{env_of}
 use Rattle.jp_naive.proofs.env.relations.Given as goal
 

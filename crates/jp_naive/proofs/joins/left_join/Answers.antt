@@ -2,7 +2,7 @@ use Rattle.std.proofs.Common.{◌∙◌, ◌++◌, [], ap, ap₂, refl, arith, �
 use Rattle.std.specs.Prelude.{Option}
 use Rattle.std.specs.List.{flat_map}
 use Rattle.jp_query.specs.Meaning.{pairs_or_alone}
-use Rattle.jp_query.specs.Scopes.{rows_of_tables}
+use Rattle.jp_query.specs.Tables.{rows_of_tables}
 use Rattle.jp_naive.specs.Tuples.{env_of, envs_in, envs_of, rels_of, values_of}
 use Rattle.jp_naive.specs.declared.tuple.Leaf.{Leaf}
 use Rattle.jp_naive.proofs.ListFacts.{gathers_more}

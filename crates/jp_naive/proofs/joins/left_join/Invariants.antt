@@ -1,7 +1,7 @@
 use Rattle.std.proofs.Common.{◌≡◌, ◌++◌, drop}
 use Rattle.std.specs.List.{flat_map}
 use Rattle.jp_query.specs.Meaning.{pairs_or_alone}
-use Rattle.jp_query.specs.Scopes.{rows_of_tables}
+use Rattle.jp_query.specs.Tables.{rows_of_tables}
 use Rattle.jp_naive.specs.Tuples.{envs_in, envs_of, rels_of, values_of}
 use Rattle.jp_naive.proofs.joins.left_join.Given as goal
 

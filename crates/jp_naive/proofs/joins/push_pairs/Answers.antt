@@ -1,7 +1,7 @@
 use Rattle.std.proofs.Common.{◌∙◌, ◌++◌, ◌∷◌, [], ap, arith, map}
 use Rattle.std.specs.Prelude.{filter}
 use Rattle.jp_query.specs.Meaning.{holds, pairs, with_rows}
-use Rattle.jp_query.specs.Scopes.{rows_of_tables}
+use Rattle.jp_query.specs.Tables.{rows_of_tables}
 use Rattle.jp_naive.specs.Tuples.{env_of, envs_in, envs_of, rels_of, values_of}
 use Rattle.jp_naive.proofs.ListFacts.{filter_first, gathers_more}
 use Rattle.jp_naive.proofs.TupleFacts.{pair_means, pair_size}

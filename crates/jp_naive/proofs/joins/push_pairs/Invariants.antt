@@ -1,6 +1,6 @@
 use Rattle.std.proofs.Common.{◌≡◌, ◌++◌, drop}
 use Rattle.jp_query.specs.Meaning.{pairs}
-use Rattle.jp_query.specs.Scopes.{rows_of_tables}
+use Rattle.jp_query.specs.Tables.{rows_of_tables}
 use Rattle.jp_naive.specs.Tuples.{env_of, envs_in, envs_of, rels_of, values_of}
 use Rattle.jp_naive.proofs.joins.push_pairs.Given as goal
 

@@ -1,6 +1,6 @@
 use Rattle.std.proofs.Common.{◌∙◌, ap, arith, length, map}
 use Rattle.jp_query.specs.Meaning.{pairs, without}
-use Rattle.jp_query.specs.Scopes.{rows_of_tables}
+use Rattle.jp_query.specs.Tables.{rows_of_tables}
 use Rattle.jp_naive.specs.Tuples.{absent, env_of, envs_in, rels_of, values_of}
 use Rattle.std.proofs.lemmas.List.{length-map}
 use Rattle.jp_naive.proofs.ListFacts.{alone_added}

@@ -1,5 +1,5 @@
 use Rattle.std.proofs.Common.{◌∙◌, ◌++◌, ◌∷◌, [], ap, refl}
-use Rattle.jp_query.specs.Scopes.{rows_of_tables}
+use Rattle.jp_query.specs.Tables.{rows_of_tables}
 use Rattle.jp_naive.specs.Outputs.{output_at, output_is_built, outputs_at}
 use Rattle.jp_naive.specs.Tuples.{env_of}
 use Rattle.jp_naive.proofs.ListFacts.{gathers_more, one_of_all}

@@ -1,5 +1,5 @@
 use Rattle.std.proofs.Common.{◌≡◌, ◌++◌, drop}
-use Rattle.jp_query.specs.Scopes.{rows_of_tables}
+use Rattle.jp_query.specs.Tables.{rows_of_tables}
 use Rattle.jp_naive.specs.Outputs.{outputs_at}
 use Rattle.jp_naive.specs.Tuples.{env_of}
 use Rattle.jp_naive.proofs.outputs.output_row.Given as goal

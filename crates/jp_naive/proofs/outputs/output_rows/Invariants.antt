@@ -1,7 +1,7 @@
 use Rattle.std.proofs.Common.{◌≡◌, ◌++◌, drop, map}
 use Rattle.std.specs.Prelude.{filter}
 use Rattle.jp_query.specs.Meaning.{holds}
-use Rattle.jp_query.specs.Scopes.{rows_of_tables}
+use Rattle.jp_query.specs.Tables.{rows_of_tables}
 use Rattle.jp_naive.specs.Outputs.{outputs_at}
 use Rattle.jp_naive.specs.Tuples.{envs_in, envs_of, values_of}
 use Rattle.jp_naive.proofs.outputs.output_rows.Given as goal

@@ -1,6 +1,6 @@
 use Rattle.std.proofs.Common.{subst, sym}
 use Rattle.jp_query.specs.Freshness.{IsFresh}
-use Rattle.jp_naive.specs.Built.{IsTypedOver}
+use Rattle.jp_query.specs.Tables.{IsTypedOver}
 use Rattle.jp_naive.proofs.ExampleFacts.{typed_over, ones_fresh}
 use Rattle.jp_naive.proofs.tests.rows_of_a_query.Goals as goal
 

@@ -1,11 +1,9 @@
 use Rattle.std.proofs.Common.{◌∙◌, ap, map, fold, refl, rules}
 use Rattle.std.specs.Prelude.{bit_or}
 use Rattle.jp_query.specs.declared.Expr.{the_lemmas}
-use Rattle.jp_query.specs.Meaning.{rels_in, with_member}
-use Rattle.jp_query.specs.Meaning.{tuples_of as meant}
+use Rattle.jp_query.specs.Meaning.{rels_in, with_member, tuples_of as meant, no_outer_rows}
 use Rattle.jp_query.specs.Refs.{union}
-use Rattle.jp_query.specs.Scopes.{rows_of_tables}
-use Rattle.jp_naive.specs.Built.{outermost}
+use Rattle.jp_query.specs.Tables.{rows_of_tables}
 use Rattle.jp_naive.specs.Tuples.{envs_in, rels_of}
 use Rattle.jp_naive.proofs.TreeLaws.{join_parts, from_parts, member_taken, takes_more}
 use Rattle.jp_naive.proofs.trees.+tuples.Goals as goal
@@ -47,9 +45,9 @@ combinations-loop-member-preserved t c =
           c.args.members.now c.loop-member.member-index c.member-item.result c.member-item.is c.loop-member-test.true
           (rels_of c.loop-member.all.leaves) (rels_of c.in_ok-all-2.all.leaves) (union (map rels_in (map tuples c.args.members.now))) c.loop-member.invariant.rels
           (c.in_ok-all-2.ensures.rels ∙ ap (bit_or (rels_of c.loop-member.all.leaves)) c.in_ok-more.ensures.rels);
-      tuples = takes_more (λ a ms. fold (with_member outermost) a (map tuples ms)) (λ a m. with_member outermost a (tuples m)) (λ a x xs. refl)
+      tuples = takes_more (λ a ms. fold (with_member no_outer_rows) a (map tuples ms)) (λ a m. with_member no_outer_rows a (tuples m)) (λ a x xs. refl)
           c.args.members.now c.loop-member.member-index c.member-item.result c.member-item.is c.loop-member-test.true
           (envs_in tables c.loop-member.all) (envs_in tables c.in_ok-all-2.all) _ c.loop-member.invariant.tuples
-          (member_taken (tuples c.member-item.result) outermost (envs_in tables c.loop-member.all) (envs_in tables c.in_ok-more.more) (envs_in tables c.in_ok-all-2.all)
+          (member_taken (tuples c.member-item.result) no_outer_rows (envs_in tables c.loop-member.all) (envs_in tables c.in_ok-more.more) (envs_in tables c.in_ok-all-2.all)
           (rels_of c.in_ok-more.more.leaves) c.in_ok-more.ensures.rels c.in_ok-more.ensures.tuples c.in_ok-all-2.ensures.tuples);
     }

@@ -1,8 +1,7 @@
 use Rattle.std.proofs.Common.{◌∙◌, ◌++◌, ◌∷◌, [], ap, refl, arith, map}
 use Rattle.std.specs.Prelude.{Some}
-use Rattle.jp_query.specs.Meaning.{with_row}
-use Rattle.jp_query.specs.Scopes.{rows_of_tables}
-use Rattle.jp_naive.specs.Built.{outermost}
+use Rattle.jp_query.specs.Meaning.{with_row, no_outer_rows}
+use Rattle.jp_query.specs.Tables.{rows_of_tables}
 use Rattle.jp_naive.specs.Tuples.{env_of, envs_in, rels_of}
 use Rattle.jp_naive.proofs.ListFacts.{gathers_more}
 use Rattle.jp_naive.proofs.TupleFacts.{envs_more, rels_of_one}
@@ -12,7 +11,7 @@ pub loop-row-preserved : goal.loop-row-preserved
 loop-row-preserved c =
     let tables = c.args.tables.now.list in
     let rows = rows_of_tables tables c.args.table in
-    let one = with_row outermost c.args.rel in
+    let one = with_row no_outer_rows c.args.rel in
     let before = envs_in tables c.loop-row.list in
     let row = Some c.loop-row.row ∷ [] in
     record {

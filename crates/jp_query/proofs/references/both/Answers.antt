@@ -2,4 +2,4 @@ use Rattle.jp_query.proofs.SetWords.{union_is}
 use Rattle.jp_query.proofs.references.both.Goals as goal
 
 pub returns : goal.returns
-returns c = union_is c.args.a c.args.b c.union.result c.union.ensures
+returns c = union_is c.args.a c.args.b c.union.result c.union.ensures.members

@@ -9,3 +9,9 @@ returns-clause-copy_in_order c = simp folds
 
 pub returns-clause-copy_in_where : goal.returns-clause-copy_in_where
 returns-clause-copy_in_where c = simp folds
+
+pub returns-clause-copy_in_copies : goal.returns-clause-copy_in_copies
+returns-clause-copy_in_copies c = simp folds
+
+pub returns-clause-copy_in_one_sublink : goal.returns-clause-copy_in_one_sublink
+returns-clause-copy_in_one_sublink c = simp folds

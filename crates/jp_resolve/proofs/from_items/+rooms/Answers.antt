@@ -1,5 +1,5 @@
 use Rattle.std.proofs.Common.{◌≡◌, ◌<◌, Some, ◌∙◌, ap, sym, arith, rules}
-use Rattle.jp_parse.specs.declared.tree.FromItem.{the_lemmas, size-FromItem}
+use Rattle.jp_ast.specs.declared.tree.FromItem.{the_lemmas, size-FromItem}
 use Rattle.jp_resolve.specs.Answers.{room_after, count_in}
 use Rattle.jp_resolve.proofs.FromLaws.{left_smaller, right_smaller, room_more, room_last, count-Join, count-other}
 use Rattle.jp_resolve.proofs.from_items.+rooms.Goals as goal

@@ -1,5 +1,5 @@
 use Rattle.std.proofs.Common.{◌≡◌, ◌≤◌}
-use Rattle.jp_parse.specs.declared.tree.FromItem.{size-FromItem}
+use Rattle.jp_ast.specs.declared.tree.FromItem.{size-FromItem}
 use Rattle.jp_resolve.specs.Answers.{room_after, count_in}
 use Rattle.jp_resolve.proofs.from_items.+rooms.Given as goal
 

@@ -1,7 +1,7 @@
 use Rattle.std.proofs.Common.{◌≡◌, ◌<◌, ◌+◌, ◌∙◌, ap, sym, map, length, Ok, subst, arith, rules}
 use Rattle.std.proofs.lemmas.List.{length-map}
 use Rattle.std.proofs.lemmas.Grind.{common_steps}
-use Rattle.jp_parse.specs.declared.tree.FromItem.{the_lemmas, size-FromItem}
+use Rattle.jp_ast.specs.declared.tree.FromItem.{the_lemmas, size-FromItem}
 use Rattle.jp_resolve.specs.Answers.{Gives, built, source_in, count_in}
 use Rattle.jp_resolve.specs.Views.{shown, shown_source}
 use Rattle.jp_resolve.specs.Resolving.{kind_of}

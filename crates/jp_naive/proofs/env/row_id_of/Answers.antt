@@ -1,6 +1,6 @@
 use Rattle.std.proofs.Common.{◌∙◌, sym, arith}
 use Rattle.jp_naive.proofs.TupleFacts.{no_leaf, passed_leaf}
-use Rattle.jp_naive.proofs.env.place_of.Goals as goal
+use Rattle.jp_naive.proofs.env.row_id_of.Goals as goal
 
 pub loop-at-preserved : goal.loop-at-preserved
 loop-at-preserved c = λ tables. passed_leaf tables c.args.tuple.leaves.now c.args.tuple.rows.now c.loop-at.at _ c.args.rel _

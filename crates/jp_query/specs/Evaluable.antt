@@ -1,16 +1,26 @@
--- Which queries the slow evaluator takes so far, and what else it asks of a query and its tables.
-use Rattle.std.specs.Prelude.{◌≡◌, ℕ, ◌&&◌, Bool, true, false, not, List, [], ◌∷◌, All, Option, Some, None, slice_get}
+-- Which expressions and queries the evaluators take so far.
+use Rattle.std.specs.Prelude.{◌≡◌, ◌&&◌, Bool, true, false, not, List, [], ◌∷◌}
 use Rattle.jp_query.specs.declared.JoinKind.TheVariants as join
-use Rattle.jp_query.specs.declared.JoinTree.{JoinTree}
-use Rattle.jp_query.specs.declared.Expr.{Expr}
-use Rattle.jp_query.specs.declared.Query.{Query}
-use Rattle.jp_query.specs.declared.Expr.TheOpen.{JoinTree-F, Order-F, Output-F, Query-F}
-use Rattle.jp_query.specs.declared.Expr.TheFolds.{fold-Expr, fold-JoinTree, fold-Query}
-use Rattle.jp_query.specs.Conditions.{all_true, IsTyped, IsBounded}
-use Rattle.jp_query.specs.Meaning.{Row, Env}
-use Rattle.jp_query.specs.Parts.{tables_in}
-use Rattle.jp_query.specs.Scopes.{Schema, Belong}
-use Rattle.jp_eval.specs.Evaluable.{evaluable_level}
+use Rattle.jp_query.specs.Layers.{Expr, JoinTree, Query, Expr-F, JoinTree-F, Order-F, Output-F, Query-F, fold-Expr, fold-JoinTree, fold-Query}
+use Rattle.jp_query.specs.Conditions.{all_true}
+
+-- columns, literals, placeholders, comparisons, AND, OR, NOT and IS, and no other node
+abbrev pub evaluable_level : {B C D F : Type 0} → Expr-F Bool B C D F → Bool
+evaluable_level (Expr-F.Col rel col ty nulled) = true
+evaluable_level (Expr-F.Lit v ty) = true
+evaluable_level (Expr-F.Place inner rels) = inner
+evaluable_level (Expr-F.Compare op left right) = left && right
+evaluable_level (Expr-F.And members) = all_true members
+evaluable_level (Expr-F.Or members) = all_true members
+evaluable_level (Expr-F.Not operand) = operand
+evaluable_level (Expr-F.Test test operand) = operand
+evaluable_level _ = false
+
+abbrev pub is_evaluable : Expr → Bool
+is_evaluable = fold-Expr Bool (Unit {0}) (Unit {0}) (Unit {0}) (Unit {0}) evaluable_level (λ t. tt) (λ o. tt) (λ o. tt) (λ q. tt)
+
+abbrev pub IsEvaluable : Expr → Type 0
+IsEvaluable expr = is_evaluable expr ≡ true
 
 -- base tables, FROM lists, and inner and left joins, with conditions that the evaluator takes
 abbrev pub tree_built : JoinTree-F Bool Bool Bool Bool Bool → Bool
@@ -45,26 +55,3 @@ query_is_built = fold-Query Bool Bool Bool Bool Bool evaluable_level tree_built 
 
 abbrev pub IsBuilt : Query → Type 0
 IsBuilt query = query_is_built query ≡ true
-
--- the tables with their rows; None where one isn't loaded
-abbrev pub TableRows : Type 0
-TableRows = List (Option (List Row))
-
--- the place has a table that is loaded
-abbrev pub IsLoaded : TableRows → ℕ → Type 0
-IsLoaded tables table = (rows : List Row) × (slice_get tables table ≡ Some (Some rows))
-
--- each table that the query names is there
-abbrev pub AllLoaded : TableRows → Query → Type 0
-AllLoaded tables query = All (IsLoaded tables) (tables_in query)
-
--- typed and bounded over some schema to which the tables belong
-pub record IsTypedOver (tables : TableRows) (query : Query) : Type 0 where
-  pub schema : Schema
-  pub belong : Belong schema tables
-  pub typed : IsTyped schema [] query
-  pub bounded : IsBounded schema [] query
-
--- no relation has a row
-abbrev pub outermost : Env
-outermost rel = None
