@@ -3,7 +3,7 @@ use Rattle.std.proofs.Common.{◌≡◌, ◌∙◌, ap, sym, subst, refl, ℕ, s
 use Rattle.std.specs.Prelude.{All, Contains}
 use Rattle.std.specs.List.{AllPairs}
 use Rattle.std.proofs.lemmas.List.Elements.{All-cons}
-use Rattle.jp_query.specs.Meaning.{Row, Line, same_rows, differs, first_lines}
+use Rattle.jp_query.specs.Ordering.{Row, Line, same_rows, differs, first_lines}
 use Rattle.jp_laws.specs.Lines.{IsDifferent, IsDifferentFrom}
 use Rattle.jp_laws.proofs.ValueLaws.{rows_equal, rows_same}
 
@@ -54,7 +54,7 @@ firsts_in (x ∷ xs) line (inr r) =
 pub firsts : (lines : List Line) (line : Line) → Contains (first_lines lines) line → (before : List Line) × (after : List Line) × (lines ≡ before ++ line ∷ after) × All (IsDifferentFrom line) before
 firsts lines line h = firsts_in lines line (to_in line (first_lines lines) h)
 
-not_false : (b : Bool) → not b ≡ false → b ≡ true
+pub not_false : (b : Bool) → not b ≡ false → b ≡ true
 not_false true h = refl
 not_false false h = cc
 

@@ -1,16 +1,16 @@
 -- Each tuple of a rooted tree has some relation of the tree present.
-use Rattle.std.proofs.Common.{◌≡◌, ◌∙◌, ap, sym, subst, refl, ℕ, ◌⊎◌, inl, inr, true, false, List, [], ◌∷◌, ◌++◌, map, fold, filter, Some, None, eq-eqb}
+use Rattle.std.proofs.Common.{◌≡◌, ◌∙◌, ap, sym, subst, refl, ℕ, inl, inr, true, false, List, [], ◌∷◌, map, fold, filter, Some, None, eq-eqb}
 use Rattle.std.specs.Prelude.{Contains, bit_or, bit_and, ◌==◌, ◌&&◌, if◌then◌else◌}
 use Rattle.std.specs.Int.{bit_at}
 use Rattle.std.specs.List.{list_all, flat_map}
-use Rattle.std.proofs.lemmas.Bool.{eqb-true}
+use Rattle.std.proofs.lemmas.Bool.{and_parts, eqb-true}
+use Rattle.std.proofs.lemmas.Nat.{or_comm}
 use Rattle.std.proofs.lemmas.Nat.Bits.{bit_at-pow_same}
 use Rattle.jp_base.specs.Sets.{Has}
 use Rattle.jp_base.proofs.SetLemmas.{has_or, has_and, empty_zero}
 use Rattle.jp_query.specs.declared.Expr.{Expr}
 use Rattle.jp_query.specs.declared.Expr.TheOpen.{JoinTree-F}
-use Rattle.jp_query.specs.declared.Expr.TheViews.{roll-JoinTree}
-use Rattle.jp_query.specs.declared.Expr.TheFolds.{map-JoinTree, ind-JoinTree, fold-roll-JoinTree, fold-Order, fold-Output}
+use Rattle.jp_query.specs.declared.Expr.TheFolds.{map-JoinTree, fold-roll-JoinTree}
 use Rattle.jp_query.specs.declared.JoinKind.{JoinKind}
 use Rattle.jp_query.specs.declared.JoinKind.TheVariants as join
 use Rattle.jp_query.specs.declared.JoinTree.{JoinTree}
@@ -20,21 +20,21 @@ use Rattle.jp_query.specs.declared.Query.{Query}
 use Rattle.jp_query.specs.Joins.{join_rels}
 use Rattle.jp_query.specs.Refs.{only, union}
 use Rattle.jp_query.specs.Typing.{is_listed}
-use Rattle.jp_query.specs.Meaning.{Row, Env, ValueIn, Tuples, SortKey, RowsIn, holds, with_row, with_rows, without, or_else, pairs, pairs_or_alone, has_match, has_no_match, is_unmatched, left_join, join_tuples, extended, with_member, combined, rels_in, in_place, expr_value, tree_tuples, order_key, output_value, query_rows, value_of, tuples_of, meaning}
-use Rattle.jp_query.specs.Parts.{rels_of}
+use Rattle.jp_query.specs.Meaning.{Row, Env, ValueIn, Tuples, holds, with_row, with_rows, without, or_else, pairs, pairs_or_alone, has_match, has_no_match, is_unmatched, left_join, join_tuples, extended, with_member, combined, rels_in, tree_tuples, value_of, tuples_of, meaning}
+use Rattle.jp_query.specs.Layers.{JoinTreeLayer}
+use Rattle.jp_query.specs.Parts.{trees, tree_rels, rels_of}
 use Rattle.jp_query.proofs.RelsLaw.{rels_same}
+use Rattle.jp_induction.proofs.EachPart.{Each}
+use Rattle.jp_induction.proofs.Induction.{tree_alone}
+use Rattle.jp_induction.proofs.Meanings.{tree_level, at_tree}
+use Rattle.jp_induction.proofs.Rewriting.{fused_tree}
 use Rattle.jp_laws.specs.Rooted.{Rooting, rels_of_rooting, has_root, both_rooted, sides_rooted, tree_rooting, rooting_of, is_rooted}
 use Rattle.jp_laws.proofs.Agreeing.{not_eq}
 use Rattle.jp_laws.proofs.DistinctLaws.{In, to_in, filtered}
-use Rattle.jp_laws.proofs.JoinLaws.{or_comm}
+use Rattle.jp_laws.proofs.MemberLaws.{in_either}
 use Rattle.jp_laws.proofs.ValueLaws.{and_left, and_right}
 
 -- ---- members of lists
-
-in_append : (m : Env) (xs ys : List Env) → In m (xs ++ ys) → In m xs ⊎ In m ys
-in_append m [] ys h = inr h
-in_append m (x ∷ xs) ys (inl e) = inl (inl e)
-in_append m (x ∷ xs) ys (inr r) = elim (in_append m xs ys r) [ inl p ↦ inl (inr p) | inr q ↦ inr q ]
 
 module _ (S : Env → Type 0) where
   from_map : (f : Env → Env) (xs : List Env) → ((u : Env) → In u xs → S (f u)) → (m : Env) → In m (map f xs) → S m
@@ -44,7 +44,7 @@ module _ (S : Env → Type 0) where
 
   from_flat : (f : Env → List Env) (xs : List Env) → ((u : Env) → In u xs → (m : Env) → In m (f u) → S m) → (m : Env) → In m (flat_map f xs) → S m
   from_flat f [] each m h = absurd h
-  from_flat f (x ∷ xs) each m h = elim (in_append m (f x) (flat_map f xs) h) [
+  from_flat f (x ∷ xs) each m h = elim (in_either m (f x) (flat_map f xs) h) [
     | inl p ↦ each x (inl refl) m p
     | inr q ↦ from_flat f xs (λ u g. each u (inr g)) m q
   ]
@@ -85,7 +85,7 @@ module _ (on : List ValueIn) where
       (λ x g. from_else (Shown (bit_or l r)) (without r x) (pairs on r rights x) (shown_without l r apart x (a x g)) (pairs_shown l r rights b x))
 
   full_shown : (l r : ℕ) → Apart l r → (lefts rights : List Env) → AllShown l lefts → AllShown r rights → AllShown (bit_or l r) (join_tuples join.Full on l lefts r rights)
-  full_shown l r apart lefts rights a b m h = elim (in_append m (left_join on r lefts rights) (map (without l) (filter (is_unmatched on r lefts) rights)) h) [
+  full_shown l r apart lefts rights a b m h = elim (in_either m (left_join on r lefts rights) (map (without l) (filter (is_unmatched on r lefts) rights)) h) [
     | inl p ↦ left_shown l r apart lefts rights a b m p
     | inr q ↦ subst (λ n. Shown n m) (or_comm r l) (from_map (Shown (bit_or r l)) (without l) (filter (is_unmatched on r lefts) rights) (λ u g. shown_without r l (λ i p q. apart i q p) u (b u (filtered (is_unmatched on r lefts) u rights g).1)) m q)
   ]
@@ -132,72 +132,44 @@ combined_shown env [] l each = absurd (false_true l)
     false_true h = cc
 combined_shown env (t ∷ ts) l each = rest_shown env (bit_or 0 t.rels) (with_member env (env ∷ []) t) ts (member_shown env 0 (env ∷ []) t (each.0 env)) each.1
 
+-- the relations that are kept beside the word are those of the tree
+pub rooting_rels : (t : JoinTree) → (rooting_of t).rels ≡ rels_of t
+rooting_rels = fused_tree (Unit {0}) Rooting (Unit {0}) (Unit {0}) (Unit {0}) (Unit {0}) ℕ (Unit {0}) (Unit {0}) (Unit {0}) (λ x. tt) tree_rooting (λ o. tt) (λ o. tt) (λ q. tt) (λ x. tt) tree_rels (λ o. tt) (λ o. tt) (λ q. tt)
+    (λ x. x) rels_of_rooting (λ x. x) (λ x. x) (λ x. x) (λ x. refl) at_level (λ x. refl) (λ x. refl) (λ x. refl)
+  where
+    at_level : (x : JoinTree-F (Unit {0}) Rooting (Unit {0}) (Unit {0}) (Unit {0})) → (tree_rooting x).rels ≡ tree_rels (map-JoinTree (Unit {0}) Rooting (Unit {0}) (Unit {0}) (Unit {0}) (Unit {0}) ℕ (Unit {0}) (Unit {0}) (Unit {0}) (λ x. x) rels_of_rooting (λ x. x) (λ x. x) (λ x. x) x)
+    at_level (JoinTree-F.Base rel name table) = refl
+    at_level (JoinTree-F.Sub rel name query) = refl
+    at_level (JoinTree-F.Join kind left right on) = refl
+    at_level (JoinTree-F.From members conds) = refl
+
 module _ (tables : ℕ → List Row) where
   abbrev Holds : JoinTree → Type 0
-  Holds tree = Good (tuples_of tables tree) (rooting_of tree)
+  Holds t = is_rooted t ≡ true → (env : Env) → AllShown (tuples_of tables t).rels ((tuples_of tables t).tuples env)
 
-  abbrev Tree : Type 0
-  Tree = (tree : JoinTree) × Holds tree
+  abbrev good_side : (t : JoinTree) → Holds t → Good (tuples_of tables t) (rooting_of t)
+  good_side t h = (rels_same tables t ∙ sym (rooting_rels t), h)
 
-  abbrev Level : Type 0
-  Level = JoinTree-F (Expr × Unit {0}) Tree (Order × Unit {0}) (Output × Unit {0}) (Query × Unit {0})
-
-  abbrev trees_in : List Tree → List JoinTree
-  trees_in = map (λ t. t.0)
-
-  -- a level in which each tree stands with its proof, without the proofs
-  abbrev bare : Level → JoinTree-F Expr JoinTree Order Output Query
-  bare = map-JoinTree (Expr × Unit {0}) Tree (Order × Unit {0}) (Output × Unit {0}) (Query × Unit {0}) Expr JoinTree Order Output Query (λ e. e.0) (λ t. t.0) (λ o. o.0) (λ u. u.0) (λ q. q.0)
-
-  rels_each : (trees : List Tree) → map rels_in (map (tuples_of tables) (trees_in trees)) ≡ map rels_of_rooting (map rooting_of (trees_in trees))
-  rels_each [] = refl
-  rels_each (tree ∷ trees) = ap (λ n. n ∷ map rels_in (map (tuples_of tables) (trees_in trees))) tree.1.0 ∙ ap (λ ns. (rooting_of tree.0).rels ∷ ns) (rels_each trees)
-
-  listed_same : (trees : List Tree) → is_listed (map rooting_of (trees_in trees)) ≡ true → is_listed (map (tuples_of tables) (trees_in trees)) ≡ true
+  listed_same : (ts : List JoinTree) → is_listed (map rooting_of ts) ≡ true → is_listed (map (tuples_of tables) ts) ≡ true
   listed_same [] h = h
-  listed_same (tree ∷ trees) h = h
+  listed_same (t ∷ ts) h = h
 
-  shown_each : (trees : List Tree) → list_all has_root (map rooting_of (trees_in trees)) ≡ true → EachShown (map (tuples_of tables) (trees_in trees))
-  shown_each [] h = tt
-  shown_each (tree ∷ trees) h = (tree.1.1 (and_left (rooting_of tree.0).rooted (list_all has_root (map rooting_of (trees_in trees))) h), shown_each trees (and_right (rooting_of tree.0).rooted (list_all has_root (map rooting_of (trees_in trees))) h))
+  shown_each : (ts : List JoinTree) → Each Holds ts → list_all has_root (map rooting_of ts) ≡ true → EachShown (map (tuples_of tables) ts)
+  shown_each [] g h = tt
+  shown_each (t ∷ ts) g h = let both = and_parts (is_rooted t) (list_all has_root (map rooting_of ts)) h in (g.0 both.0, shown_each ts g.1 both.1)
 
-  abbrev means : JoinTree-F Expr JoinTree Order Output Query → Tuples
-  means x = tree_tuples tables (map-JoinTree Expr JoinTree Order Output Query ValueIn Tuples SortKey ValueIn RowsIn (value_of tables) (tuples_of tables) key_of output_of (meaning tables) x)
-    where
-      key_of : Order → SortKey
-      key_of = fold-Order ValueIn Tuples SortKey ValueIn RowsIn (expr_value in_place) (tree_tuples tables) order_key output_value query_rows
+  level : (x : JoinTreeLayer) → Each Holds (trees x) → (tree_rooting (map-JoinTree Expr JoinTree Order Output Query (Unit {0}) Rooting (Unit {0}) (Unit {0}) (Unit {0}) (λ e. tt) rooting_of (λ o. tt) (λ u. tt) (λ q. tt) x)).rooted ≡ true
+      → (env : Env) → AllShown (tree_tuples tables (tree_level tables x)).rels ((tree_tuples tables (tree_level tables x)).tuples env)
+  level (JoinTree-F.Base rel name table) g h env = leaf_shown rel env (tables table)
+  level (JoinTree-F.Sub rel name query) g h env = leaf_shown rel env (meaning tables query env)
+  level (JoinTree-F.Join kind left right on) g h env = join_good kind (map (value_of tables) on) (tuples_of tables left) (tuples_of tables right) (rooting_of left) (rooting_of right) (good_side left g.0) (good_side right g.1.0) h env
+  level (JoinTree-F.From members conds) g h env = λ m p.
+      let both = and_parts (is_listed (map rooting_of members)) (list_all has_root (map rooting_of members)) h in
+      combined_shown env (map (tuples_of tables) members) (listed_same members both.0) (shown_each members g both.1) m (filtered (holds (map (value_of tables) conds)) m (combined (map (tuples_of tables) members) env) p).1
 
-      output_of : Output → ValueIn
-      output_of = fold-Output ValueIn Tuples SortKey ValueIn RowsIn (expr_value in_place) (tree_tuples tables) order_key output_value query_rows
-
-  abbrev roots : JoinTree-F Expr JoinTree Order Output Query → Rooting
-  roots x = tree_rooting (map-JoinTree Expr JoinTree Order Output Query (Unit {0}) Rooting (Unit {0}) (Unit {0}) (Unit {0}) (λ e. tt) rooting_of (λ o. tt) (λ u. tt) (λ q. tt) x)
-
-  from_shown : (trees : List Tree) (conds : List ValueIn) (env : Env) → (is_listed (map rooting_of (trees_in trees)) && list_all has_root (map rooting_of (trees_in trees))) ≡ true
-      → AllShown (union (map rels_in (map (tuples_of tables) (trees_in trees)))) (filter (holds conds) (combined (map (tuples_of tables) (trees_in trees)) env))
-  from_shown trees conds env h m p =
-      let listed : is_listed (map rooting_of (trees_in trees)) ≡ true = and_left (is_listed (map rooting_of (trees_in trees))) (list_all has_root (map rooting_of (trees_in trees))) h in
-      let rooted : list_all has_root (map rooting_of (trees_in trees)) ≡ true = and_right (is_listed (map rooting_of (trees_in trees))) (list_all has_root (map rooting_of (trees_in trees))) h in
-      combined_shown env (map (tuples_of tables) (trees_in trees)) (listed_same trees listed) (shown_each trees rooted) m (filtered (holds conds) m (combined (map (tuples_of tables) (trees_in trees)) env) p).1
-
-  good_at : (y : Level) → Good (means (bare y)) (roots (bare y))
-  good_at (JoinTree-F.Base rel name table) = (refl, λ h env. leaf_shown rel env (tables table))
-  good_at (JoinTree-F.Sub rel name query) = (refl, λ h env. leaf_shown rel env (meaning tables query.0 env))
-  good_at (JoinTree-F.Join kind left right on) = (
-    ap (λ n. join_rels kind n (tuples_of tables right.0).rels) left.1.0 ∙ ap (λ n. join_rels kind (rooting_of left.0).rels n) right.1.0,
-    join_good kind (map (value_of tables) (map (λ e. e.0) on)) (tuples_of tables left.0) (tuples_of tables right.0) (rooting_of left.0) (rooting_of right.0) left.1 right.1,
-  )
-  good_at (JoinTree-F.From members conds) = (ap union (rels_each members), λ h env. from_shown members (map (value_of tables) (map (λ e. e.0) conds)) env h)
-
-  good : (tree : JoinTree) → Holds tree
-  good = ind-JoinTree (λ e. Unit {0}) Holds (λ o. Unit {0}) (λ u. Unit {0}) (λ q. Unit {0})
-      (λ x y e. tt)
-      (λ x y e. subst (λ z. Holds (roll-JoinTree z)) e (step y))
-      (λ x y e. tt) (λ x y e. tt) (λ x y e. tt)
-    where
-      step : (y : Level) → Holds (roll-JoinTree (bare y))
-      step y = subst (λ t. Good t (rooting_of (roll-JoinTree (bare y)))) (sym (fold-roll-JoinTree ValueIn Tuples SortKey ValueIn RowsIn (expr_value in_place) (tree_tuples tables) order_key output_value query_rows (bare y)))
-          (subst (λ r. Good (means (bare y)) r) (sym (fold-roll-JoinTree (Unit {0}) Rooting (Unit {0}) (Unit {0}) (Unit {0}) (λ x. tt) tree_rooting (λ o. tt) (λ o. tt) (λ q. tt) (bare y))) (good_at y))
+  good : (t : JoinTree) → Holds t
+  good = tree_alone Holds (λ x g h. subst (λ (t : Tuples). (env : Env) → AllShown t.rels (t.tuples env)) (sym (at_tree tables x))
+      (level x g (subst (λ (r : Rooting). r.rooted ≡ true) (fold-roll-JoinTree (Unit {0}) Rooting (Unit {0}) (Unit {0}) (Unit {0}) (λ x. tt) tree_rooting (λ o. tt) (λ o. tt) (λ q. tt) x) h)))
 
   pub some_present : (tree : JoinTree) (env tuple : Env) → is_rooted tree ≡ true → Contains ((tuples_of tables tree).tuples env) tuple → (i : ℕ) × Has (rels_of tree) i × (row : Row) × (tuple i ≡ Some row)
-  some_present tree env tuple h c = subst (λ n. Shown n tuple) (rels_same tables tree) ((good tree).1 h env tuple (to_in tuple ((tuples_of tables tree).tuples env) c))
+  some_present tree env tuple h c = subst (λ n. Shown n tuple) (rels_same tables tree) (good tree h env tuple (to_in tuple ((tuples_of tables tree).tuples env) c))

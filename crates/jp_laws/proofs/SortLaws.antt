@@ -1,14 +1,16 @@
 -- The sort is a permutation, in order, and stable.
-use Rattle.std.proofs.Common.{◌≡◌, ◌∙◌, ap, sym, subst, refl, ℕ, suc, zero, ◌+◌, ◌<◌, ◌≤◌, Bool, true, false, cond, not, ◌&&◌, List, [], ◌∷◌, ◌++◌, filter, length, get_or, arith}
+use Rattle.std.proofs.Common.{◌≡◌, ◌∙◌, ap, sym, subst, refl, ℕ, suc, zero, ◌+◌, ◌<◌, Bool, true, false, cond, not, List, [], ◌∷◌, filter, length, get_or, arith}
 use Rattle.std.specs.Prelude.{if◌then◌else◌}
 use Rattle.std.specs.Cmp.{IsStrictWeakOrder}
 use Rattle.std.specs.List.Sorted.{IsPermutation, IsSortedBy, IsStableBy, ties}
-use Rattle.std.proofs.lemmas.List.Sorted.{IsPermutation-refl, IsPermutation-cons, IsPermutation-sym, IsPermutation-trans, IsPermutation-middle}
-use Rattle.jp_query.specs.Meaning.{Row, Line, same_rows, is_before, inserted, sorted}
-use Rattle.jp_laws.specs.Lines.{has_keys}
-use Rattle.jp_laws.proofs.ValueLaws.{rows_equal, one_way, not_before_equal, and_left, and_right}
+use Rattle.std.proofs.lemmas.List.Sorted.{IsPermutation-refl, IsPermutation-cons, IsPermutation-sym, IsPermutation-trans, IsPermutation-middle, sorted_far}
+use Rattle.jp_query.specs.Ordering.{Line, Direction, AreInOrder, is_before, inserted, sorted}
+use Rattle.jp_laws.proofs.ValueLaws.{lines_weak, and_left, and_right}
 
-module _ (keys : List (Bool × Bool)) where
+module _ (keys : List Direction) where
+  weak : IsStrictWeakOrder (is_before keys)
+  weak = lines_weak keys
+
   moved : (line next : Line) (lines : List Line) (b : Bool) → IsPermutation (line ∷ lines) (inserted keys line lines) → IsPermutation (line ∷ next ∷ lines) (if b then next ∷ inserted keys line lines else line ∷ next ∷ lines)
   moved line next lines true ih = IsPermutation-trans (line ∷ next ∷ lines) (next ∷ line ∷ lines) (next ∷ inserted keys line lines) (IsPermutation-sym (next ∷ line ∷ lines) (line ∷ next ∷ lines) (IsPermutation-middle (next ∷ []) line lines)) (IsPermutation-cons next (line ∷ lines) (inserted keys line lines) ih)
   moved line next lines false ih = IsPermutation-refl (line ∷ next ∷ lines)
@@ -40,7 +42,7 @@ module _ (keys : List (Bool × Bool)) where
   ahead first line (next ∷ lines) p a = ahead_at first line next lines (is_before keys next line) p a
 
   up_at : (line next : Line) (lines : List Line) (b : Bool) → is_before keys next line ≡ b → Ahead next lines → Up lines → Up (inserted keys line lines) → Up (if b then next ∷ inserted keys line lines else line ∷ next ∷ lines)
-  up_at line next lines true e a u ih = (ahead next line lines (one_way keys next line e) a, ih)
+  up_at line next lines true e a u ih = (ahead next line lines (weak.one_way next line e) a, ih)
   up_at line next lines false e a u ih = (e, (a, u))
 
   up_inserted : (line : Line) (lines : List Line) → Up lines → Up (inserted keys line lines)
@@ -57,8 +59,11 @@ module _ (keys : List (Bool × Bool)) where
   up_pairs (x ∷ y ∷ lines) u zero d low = u.0
   up_pairs (x ∷ y ∷ lines) u (suc k) d low = up_pairs (y ∷ lines) u.1 k d (omega arith)
 
-  pub in_order : (lines : List Line) → IsSortedBy (is_before keys) (sorted keys lines)
-  in_order lines k d low high = let e : suc k ≡ k + 1 = omega arith in subst (λ m. is_before keys (get_or (sorted keys lines) m d) (get_or (sorted keys lines) k d) ≡ false) e (up_pairs (sorted keys lines) (up_sorted lines) k d (omega arith))
+  pub neighbours : (lines : List Line) → IsSortedBy (is_before keys) (sorted keys lines)
+  neighbours lines k d low high = let e : suc k ≡ k + 1 = omega arith in subst (λ m. is_before keys (get_or (sorted keys lines) m d) (get_or (sorted keys lines) k d) ≡ false) e (up_pairs (sorted keys lines) (up_sorted lines) k d (omega arith))
+
+  pub in_order : (lines : List Line) → AreInOrder keys (sorted keys lines)
+  in_order lines i j d low high = sorted_far (is_before keys) weak (sorted keys lines) (neighbours lines) i j d (omega (arith, low)) high
 
   -- ---- lines that a test passes keep their order, where none of them is before another
 
@@ -81,15 +86,12 @@ module _ (keys : List (Bool × Bool)) where
     keeps [] = refl
     keeps (line ∷ lines) = kept line (sorted keys lines) ∙ ap (λ zs. cond (p line) (line ∷ zs) zs) (keeps lines)
 
-  pub stable : (lines : List Line) (row : Row) → filter (has_keys row) (sorted keys lines) ≡ filter (has_keys row) lines
-  stable lines row = keeps (has_keys row) (λ a b p q. not_before_equal keys a b (sym (rows_equal row a.keys p) ∙ rows_equal row b.keys q)) lines
-
   not_true : (b : Bool) → not b ≡ true → b ≡ false
   not_true true h = cc
   not_true false h = refl
 
-  pub ties_stable : (lines : List Line) → IsStrictWeakOrder (is_before keys) → IsStableBy (is_before keys) lines (sorted keys lines)
-  ties_stable lines o x = keeps (ties (is_before keys) x) (λ a b p q. o.chain a x b (tied_one a p) (tied_two b q)) lines
+  pub stable : (lines : List Line) → IsStableBy (is_before keys) lines (sorted keys lines)
+  stable lines x = keeps (ties (is_before keys) x) (λ a b p q. weak.chain a x b (tied_one a p) (tied_two b q)) lines
     where
       tied_one : (a : Line) → ties (is_before keys) x a ≡ true → is_before keys a x ≡ false
       tied_one a h = not_true (is_before keys a x) (and_right (not (is_before keys x a)) (not (is_before keys a x)) h)

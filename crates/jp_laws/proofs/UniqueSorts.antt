@@ -3,9 +3,10 @@ use Rattle.std.proofs.Common.{◌≡◌, ◌∙◌, ap, sym, subst, refl, ℕ, s
 use Rattle.std.specs.Cmp.{IsStrictWeakOrder}
 use Rattle.std.specs.List.Sorted.{IsSortedBy, IsStableBy, ties}
 use Rattle.std.proofs.lemmas.List.Sorted.{sorted_far}
-use Rattle.jp_query.specs.Meaning.{Line, is_before, sorted}
+use Rattle.jp_query.specs.Ordering.{Line, Direction, is_before, sorted}
 use Rattle.jp_laws.proofs.DistinctLaws.{In, from_in, filtered}
-use Rattle.jp_laws.proofs.SortLaws.{in_order, ties_stable}
+use Rattle.jp_laws.proofs.SortLaws.{neighbours, stable}
+use Rattle.jp_laws.proofs.ValueLaws.{lines_weak}
 
 no_self : (b : Bool) → (b ≡ true → b ≡ false) → b ≡ false
 no_self true h = h refl
@@ -84,5 +85,5 @@ module _ {X : Type 0} where
     pub one_list : (xs ys : List X) → IsSortedBy lt xs → IsSortedBy lt ys → ((z : X) → filter (ties lt z) xs ≡ filter (ties lt z) ys) → xs ≡ ys
     one_list xs ys a b e = same xs ys (rises xs (sorted_far lt o xs a)) (rises ys (sorted_far lt o ys b)) e
 
-pub only_sort : (keys : List (Bool × Bool)) (lines others : List Line) → IsStrictWeakOrder (is_before keys) → IsSortedBy (is_before keys) others → IsStableBy (is_before keys) lines others → others ≡ sorted keys lines
-only_sort keys lines others o up keeps = one_list (is_before keys) o others (sorted keys lines) up (in_order keys lines) (λ z. keeps z ∙ sym (ties_stable keys lines o z))
+pub only_sort : (keys : List Direction) (lines others : List Line) → IsSortedBy (is_before keys) others → IsStableBy (is_before keys) lines others → others ≡ sorted keys lines
+only_sort keys lines others up keeps = one_list (is_before keys) (lines_weak keys) others (sorted keys lines) up (neighbours keys lines) (λ z. keeps z ∙ sym (stable keys lines z))

@@ -1,61 +1,48 @@
--- The order of values and of keys.
-use Rattle.std.proofs.Common.{◌≡◌, ◌∙◌, ap, sym, subst, refl, Bool, true, false, ◌&&◌, List, [], ◌∷◌}
-use Rattle.std.specs.Prelude.{if◌then◌else◌, Some, None, ℤ, ℕ}
+-- The sameness of values and rows, and the order of keys.
+use Rattle.std.proofs.Common.{◌≡◌, ◌∙◌, ap, sym, refl, ℕ, Bool, true, false, ◌&&◌, List, [], ◌∷◌}
+use Rattle.std.specs.Prelude.{if◌then◌else◌, Some}
+use Rattle.std.specs.Cmp.{IsTotalOrder, IsStrictWeakOrder}
+use Rattle.std.specs.Cmp.Derive.{point_total}
 use Rattle.std.specs.declared.cmp.Ordering.{Ordering}
 use Rattle.std.specs.declared.cmp.Ordering.TheVariants.{Less, Equal, Greater}
-use Rattle.std.specs.Ordering.{is_eq, is_lt, ordering_reverse, ordering_then, int_cmp, bool_cmp, nat_cmp}
-use Rattle.std.specs.Cmp.Lexicographic.{slice_cmp}
-use Rattle.std.proofs.lemmas.Cmp.{tied_itself, int_cmp_total, nat_list_cmp_total}
-use Rattle.std.proofs.lemmas.Map.Lookups.{exact_signed, exact_bytes}
+use Rattle.std.specs.Ordering.{is_eq, nat_cmp, on, then_cmp, ordering_then}
+use Rattle.std.proofs.lemmas.Cmp.{then_total, on_total, back_total, nat_cmp_total, tied_itself}
+use Rattle.std.proofs.lemmas.List.MinMax.{ranks_by}
 use Rattle.jp_base.specs.declared.values.Value.{Value}
 use Rattle.jp_base.specs.declared.values.Value.TheVariants as value
-use Rattle.jp_base.specs.Values.{order_of, are_same}
-use Rattle.jp_query.specs.Meaning.{Row, Line, same_rows, value_order, key_order, keys_order, is_before}
+use Rattle.jp_base.specs.Values.{order_of, are_same, total_order_of}
+use Rattle.jp_base.proofs.ValueOrder.{values_total, tie_equal, same_order, same_total}
+use Rattle.jp_query.specs.Ordering.{Row, Line, Direction, same_rows, turned, key_order, first_key, later_keys, keys_order, is_before}
 
 eq_true : (o : Ordering) → is_eq o ≡ true → o ≡ Equal
 eq_true Less h = cc
 eq_true Equal h = refl
 eq_true Greater h = cc
 
-bool_exact : (a b : Bool) → bool_cmp a b ≡ Equal → a ≡ b
-bool_exact false false h = refl
-bool_exact false true h = cc
-bool_exact true false h = cc
-bool_exact true true h = refl
-
-bool_self : (a : Bool) → bool_cmp a a ≡ Equal
-bool_self true = refl
-bool_self false = refl
-
-bool_flip : (a b : Bool) → bool_cmp a b ≡ ordering_reverse (bool_cmp b a)
-bool_flip false false = refl
-bool_flip false true = refl
-bool_flip true false = refl
-bool_flip true true = refl
+-- values are the same where they tie
+same_tie : (a b : Value) → are_same a b ≡ is_eq (total_order_of a b)
+same_tie value.Null value.Null = refl
+same_tie value.Null (value.Num b) = refl
+same_tie value.Null (value.Bool b) = refl
+same_tie value.Null (value.Text b) = refl
+same_tie (value.Num a) value.Null = refl
+same_tie (value.Num a) (value.Num b) = refl
+same_tie (value.Num a) (value.Bool b) = refl
+same_tie (value.Num a) (value.Text b) = refl
+same_tie (value.Bool a) value.Null = refl
+same_tie (value.Bool a) (value.Num b) = refl
+same_tie (value.Bool a) (value.Bool b) = refl
+same_tie (value.Bool a) (value.Text b) = refl
+same_tie (value.Text a) value.Null = refl
+same_tie (value.Text a) (value.Num b) = refl
+same_tie (value.Text a) (value.Bool b) = refl
+same_tie (value.Text a) (value.Text b) = refl
 
 value_equal : (a b : Value) → are_same a b ≡ true → a ≡ b
-value_equal value.Null value.Null h = refl
-value_equal value.Null (value.Num b) h = cc
-value_equal value.Null (value.Bool b) h = cc
-value_equal value.Null (value.Text b) h = cc
-value_equal (value.Num a) value.Null h = cc
-value_equal (value.Num a) (value.Num b) h = ap (λ n. value.Num n) (exact_signed a b (eq_true (int_cmp a b) h))
-value_equal (value.Num a) (value.Bool b) h = cc
-value_equal (value.Num a) (value.Text b) h = cc
-value_equal (value.Bool a) value.Null h = cc
-value_equal (value.Bool a) (value.Num b) h = cc
-value_equal (value.Bool a) (value.Bool b) h = ap (λ n. value.Bool n) (bool_exact a b (eq_true (bool_cmp a b) h))
-value_equal (value.Bool a) (value.Text b) h = cc
-value_equal (value.Text a) value.Null h = cc
-value_equal (value.Text a) (value.Num b) h = cc
-value_equal (value.Text a) (value.Bool b) h = cc
-value_equal (value.Text a) (value.Text b) h = ap (λ n. value.Text n) (exact_bytes a b (eq_true (slice_cmp nat_cmp a b) h))
+value_equal a b h = tie_equal a b (eq_true (total_order_of a b) (sym (same_tie a b) ∙ h))
 
 value_same : (a : Value) → are_same a a ≡ true
-value_same value.Null = refl
-value_same (value.Num a) = ap is_eq (tied_itself int_cmp_total a)
-value_same (value.Bool a) = ap is_eq (bool_self a)
-value_same (value.Text a) = ap is_eq (tied_itself nat_list_cmp_total a)
+value_same a = same_tie a a ∙ ap is_eq (tied_itself values_total a)
 
 pub and_left : (b c : Bool) → (b && c) ≡ true → b ≡ true
 and_left true c h = refl
@@ -75,75 +62,77 @@ pub rows_same : (a : Row) → same_rows a a ≡ true
 rows_same [] = refl
 rows_same (a ∷ as') = ap (λ b. b && same_rows as' as') (value_same a) ∙ rows_same as'
 
--- ---- the order of keys
+-- ---- the order of keys is that of where NULLs stand, and then that of the values
 
-order_flip : (desc : Bool) (o p : Ordering) → o ≡ ordering_reverse p → value_order desc (Some o) ≡ ordering_reverse (value_order desc (Some p))
-order_flip true o p e = ap ordering_reverse e
-order_flip false o p e = e
+abbrev null_place : Bool → Value → ℕ
+null_place nulls_first value.Null = if nulls_first then 0 else 2
+null_place nulls_first _ = 1
 
-order_equal : (desc : Bool) (o : Ordering) → o ≡ Equal → value_order desc (Some o) ≡ Equal
-order_equal true o e = ap ordering_reverse e
-order_equal false o e = e
+abbrev turned_order : Bool → Value → Value → Ordering
+turned_order desc a b = turned desc (total_order_of a b)
 
-first_flip : (b : Bool) → (if b then Less else Greater) ≡ ordering_reverse (if b then Greater else Less)
-first_flip true = refl
-first_flip false = refl
+turned_total : (desc : Bool) → IsTotalOrder (turned_order desc)
+turned_total true = same_total (λ a b. total_order_of b a) (turned_order true) (λ a b. values_total.antisymm b a) (back_total values_total)
+turned_total false = values_total
 
-last_flip : (b : Bool) → (if b then Greater else Less) ≡ ordering_reverse (if b then Less else Greater)
-last_flip true = refl
-last_flip false = refl
+abbrev in_steps : Bool → Bool → Value → Value → Ordering
+in_steps desc nulls_first = then_cmp (on (null_place nulls_first) nat_cmp) (turned_order desc)
 
-key_flip : (desc nulls_first : Bool) (a b : Value) → key_order desc nulls_first a b ≡ ordering_reverse (key_order desc nulls_first b a)
-key_flip desc nulls_first value.Null value.Null = refl
-key_flip desc nulls_first value.Null (value.Num b) = first_flip nulls_first
-key_flip desc nulls_first value.Null (value.Bool b) = first_flip nulls_first
-key_flip desc nulls_first value.Null (value.Text b) = first_flip nulls_first
-key_flip desc nulls_first (value.Num a) value.Null = last_flip nulls_first
-key_flip desc nulls_first (value.Num a) (value.Num b) = order_flip desc (int_cmp a b) (int_cmp b a) (int_cmp_total.antisymm a b)
-key_flip desc nulls_first (value.Num a) (value.Bool b) = refl
-key_flip desc nulls_first (value.Num a) (value.Text b) = refl
-key_flip desc nulls_first (value.Bool a) value.Null = last_flip nulls_first
-key_flip desc nulls_first (value.Bool a) (value.Num b) = refl
-key_flip desc nulls_first (value.Bool a) (value.Bool b) = order_flip desc (bool_cmp a b) (bool_cmp b a) (bool_flip a b)
-key_flip desc nulls_first (value.Bool a) (value.Text b) = refl
-key_flip desc nulls_first (value.Text a) value.Null = last_flip nulls_first
-key_flip desc nulls_first (value.Text a) (value.Num b) = refl
-key_flip desc nulls_first (value.Text a) (value.Bool b) = refl
-key_flip desc nulls_first (value.Text a) (value.Text b) = order_flip desc (slice_cmp nat_cmp a b) (slice_cmp nat_cmp b a) (nat_list_cmp_total.antisymm a b)
+nulls_tie : (desc nulls_first : Bool) → in_steps desc nulls_first value.Null value.Null ≡ Equal
+nulls_tie true true = refl
+nulls_tie true false = refl
+nulls_tie false true = refl
+nulls_tie false false = refl
 
-key_self : (desc nulls_first : Bool) (a : Value) → key_order desc nulls_first a a ≡ Equal
-key_self desc nulls_first value.Null = refl
-key_self desc nulls_first (value.Num a) = order_equal desc (int_cmp a a) (tied_itself int_cmp_total a)
-key_self desc nulls_first (value.Bool a) = order_equal desc (bool_cmp a a) (bool_self a)
-key_self desc nulls_first (value.Text a) = order_equal desc (slice_cmp nat_cmp a a) (tied_itself nat_list_cmp_total a)
+-- v is no NULL
+null_left : (desc nulls_first : Bool) (v : Value) → null_place true v ≡ 1 → null_place false v ≡ 1 → in_steps desc nulls_first value.Null v ≡ (if nulls_first then Less else Greater)
+null_left desc true v e f = ap (λ n. ordering_then (nat_cmp 0 n) (turned_order desc value.Null v)) e
+null_left desc false v e f = ap (λ n. ordering_then (nat_cmp 2 n) (turned_order desc value.Null v)) f
 
-then_flip : (o p : Ordering) → ordering_then (ordering_reverse o) (ordering_reverse p) ≡ ordering_reverse (ordering_then o p)
-then_flip Less p = refl
-then_flip Equal p = refl
-then_flip Greater p = refl
+null_right : (desc nulls_first : Bool) (v : Value) → null_place true v ≡ 1 → null_place false v ≡ 1 → in_steps desc nulls_first v value.Null ≡ (if nulls_first then Greater else Less)
+null_right desc true v e f = ap (λ n. ordering_then (nat_cmp n 0) (turned_order desc v value.Null)) e
+null_right desc false v e f = ap (λ n. ordering_then (nat_cmp n 2) (turned_order desc v value.Null)) f
 
-keys_flip : (keys : List (Bool × Bool)) (a b : Row) → keys_order keys a b ≡ ordering_reverse (keys_order keys b a)
-keys_flip [] a b = refl
-keys_flip (key ∷ keys) [] [] = refl
-keys_flip (key ∷ keys) [] (b ∷ bs) = refl
-keys_flip (key ∷ keys) (a ∷ xs) [] = refl
-keys_flip (key ∷ keys) (a ∷ xs) (b ∷ bs) =
-    ap (λ o. ordering_then o (keys_order keys xs bs)) (key_flip key.0 key.1 a b)
-    ∙ ap (λ p. ordering_then (ordering_reverse (key_order key.0 key.1 b a)) p) (keys_flip keys xs bs)
-    ∙ then_flip (key_order key.0 key.1 b a) (keys_order keys bs xs)
+steps_are : (key : Direction) (a b : Value) → in_steps key.desc key.nulls_first a b ≡ key_order key a b
+steps_are key value.Null value.Null = nulls_tie key.desc key.nulls_first
+steps_are key value.Null (value.Num b) = null_left key.desc key.nulls_first (value.Num b) refl refl
+steps_are key value.Null (value.Bool b) = null_left key.desc key.nulls_first (value.Bool b) refl refl
+steps_are key value.Null (value.Text b) = null_left key.desc key.nulls_first (value.Text b) refl refl
+steps_are key (value.Num a) value.Null = null_right key.desc key.nulls_first (value.Num a) refl refl
+steps_are key (value.Num a) (value.Num b) = refl
+steps_are key (value.Num a) (value.Bool b) = refl
+steps_are key (value.Num a) (value.Text b) = refl
+steps_are key (value.Bool a) value.Null = null_right key.desc key.nulls_first (value.Bool a) refl refl
+steps_are key (value.Bool a) (value.Num b) = refl
+steps_are key (value.Bool a) (value.Bool b) = refl
+steps_are key (value.Bool a) (value.Text b) = refl
+steps_are key (value.Text a) value.Null = null_right key.desc key.nulls_first (value.Text a) refl refl
+steps_are key (value.Text a) (value.Num b) = refl
+steps_are key (value.Text a) (value.Bool b) = refl
+steps_are key (value.Text a) (value.Text b) = refl
 
-keys_self : (keys : List (Bool × Bool)) (a : Row) → keys_order keys a a ≡ Equal
-keys_self [] a = refl
-keys_self (key ∷ keys) [] = refl
-keys_self (key ∷ keys) (a ∷ xs) = ap (λ o. ordering_then o (keys_order keys xs xs)) (key_self key.0 key.1 a) ∙ keys_self keys xs
+key_total : (key : Direction) → IsTotalOrder (key_order key)
+key_total key = same_total (in_steps key.desc key.nulls_first) (key_order key) (steps_are key) (then_total (on_total (null_place key.nulls_first) nat_cmp_total) (turned_total key.desc))
 
-lt_flip : (o : Ordering) → is_lt o ≡ true → is_lt (ordering_reverse o) ≡ false
-lt_flip Less h = refl
-lt_flip Equal h = refl
-lt_flip Greater h = cc
+pub keys_total : (keys : List Direction) → IsTotalOrder (keys_order keys)
+keys_total [] = same_total (λ a b. Equal) (keys_order []) (λ a b. refl) point_total
+keys_total (key ∷ keys) = same_total (then_cmp (on first_key (key_order key)) (on later_keys (keys_order keys))) (keys_order (key ∷ keys)) (λ a b. refl) (then_total (on_total first_key (key_total key)) (on_total later_keys (keys_total keys)))
 
-pub one_way : (keys : List (Bool × Bool)) (a b : Line) → is_before keys a b ≡ true → is_before keys b a ≡ false
-one_way keys a b h = ap is_lt (keys_flip keys b.keys a.keys) ∙ lt_flip (keys_order keys a.keys b.keys) h
+pub lines_weak : (keys : List Direction) → IsStrictWeakOrder (is_before keys)
+lines_weak keys = ranks_by (keys_total keys) (λ (line : Line). line.keys)
 
-pub not_before_equal : (keys : List (Bool × Bool)) (a b : Line) → a.keys ≡ b.keys → is_before keys a b ≡ false
-not_before_equal keys a b e = ap (λ (r : Row). is_lt (keys_order keys r b.keys)) e ∙ ap is_lt (keys_self keys b.keys)
+-- two values of one type keep SQL's order, turned where the key descends
+pub key_sql : (key : Direction) (a b : Value) (order : Ordering) → order_of a b ≡ Some order → key_order key a b ≡ turned key.desc order
+key_sql key value.Null b o h = cc
+key_sql key (value.Num a) value.Null o h = cc
+key_sql key (value.Num a) (value.Num b) o h = ap (turned key.desc) (same_order (value.Num a) (value.Num b) o h)
+key_sql key (value.Num a) (value.Bool b) o h = cc
+key_sql key (value.Num a) (value.Text b) o h = cc
+key_sql key (value.Bool a) value.Null o h = cc
+key_sql key (value.Bool a) (value.Num b) o h = cc
+key_sql key (value.Bool a) (value.Bool b) o h = ap (turned key.desc) (same_order (value.Bool a) (value.Bool b) o h)
+key_sql key (value.Bool a) (value.Text b) o h = cc
+key_sql key (value.Text a) value.Null o h = cc
+key_sql key (value.Text a) (value.Num b) o h = cc
+key_sql key (value.Text a) (value.Bool b) o h = cc
+key_sql key (value.Text a) (value.Text b) o h = ap (turned key.desc) (same_order (value.Text a) (value.Text b) o h)

@@ -1,5 +1,8 @@
 pub mod Agreement
+pub mod Bags
 pub mod Labels
 pub mod Lines
-pub mod Outermost
+pub mod Referred
 pub mod Rooted
+pub mod SameCells
+pub mod TreesInside

@@ -1,6 +1,6 @@
--- Words for the laws of DISTINCT and of sorts.
-use Rattle.std.specs.Prelude.{◌≡◌, Bool, true}
-use Rattle.jp_query.specs.Meaning.{Row, Line, same_rows, differs}
+-- Words for the laws of DISTINCT.
+use Rattle.std.specs.Prelude.{◌≡◌, Bool, true, List, [], ◌∷◌}
+use Rattle.jp_query.specs.Ordering.{Line, same_rows, differs}
 
 abbrev pub IsDifferent : Line → Line → Type 0
 IsDifferent a b = differs a b ≡ true
@@ -9,6 +9,12 @@ IsDifferent a b = differs a b ≡ true
 abbrev pub IsDifferentFrom : Line → Line → Type 0
 IsDifferentFrom line earlier = differs earlier line ≡ true
 
--- the line is sorted by these values
-abbrev pub has_keys : Row → Line → Bool
-has_keys row line = same_rows row line.keys
+-- the other line has the outputs of the line
+abbrev pub is_same : Line → Line → Bool
+is_same line other = same_rows other.outputs line.outputs
+
+-- the first list is the second one without some of its elements, in their order there
+pub data IsSubsequence {X : Type 0} : List X → List X → Type 0 where
+  none : IsSubsequence [] []
+  kept : {x : X} {xs ys : List X} → IsSubsequence xs ys → IsSubsequence (x ∷ xs) (x ∷ ys)
+  left_out : {y : X} {xs ys : List X} → IsSubsequence xs ys → IsSubsequence xs (y ∷ ys)

@@ -1,7 +1,7 @@
 ghost use Rattle.std.specs.Prelude.{◌≡◌, ℕ, List, All};
 ghost use Rattle.jp_query.specs.declared.Expr.{Expr};
 ghost use Rattle.jp_query.specs.Meaning.{Row, Env, value_of, value_given};
-ghost use Rattle.jp_laws.specs.Outermost.{outermost, IsGiven};
+ghost use Rattle.jp_query.specs.Outermost.{outermost, IsGiven};
 
 /// A law: with given rows for the outermost sublinks that are one bag with the rows of their queries in the environment,
 /// an expression has the value that it has with its sublinks in place.

@@ -5,7 +5,8 @@ ghost use Rattle.jp_query.specs.declared.JoinTree.{JoinTree};
 ghost use Rattle.jp_query.specs.declared.Query.{Query};
 ghost use Rattle.jp_query.specs.Meaning.{Row, Env, value_of, tuples_of, meaning};
 ghost use Rattle.jp_query.specs.Refs.{refs_of, refs_of_tree, refs_of_query};
-ghost use Rattle.jp_laws.specs.Agreement.{Agree, Alike};
+ghost use Rattle.jp_induction.specs.Alike.{Alike};
+ghost use Rattle.jp_laws.specs.Agreement.{Agree};
 
 /// A law: values, tuples and rows depend only on the relations that are referred to, in sublinks and sub-selects too. In
 /// two environments that agree on these an expression has one value, a query the same rows, and a tree as many tuples,

@@ -1,8 +1,8 @@
 -- Lists of environments that are alike, place by place, and what joins and filters make of them.
-use Rattle.std.proofs.Common.{◌≡◌, ◌∙◌, ap, sym, subst, refl, ℕ, Bool, true, false, cond, ◌||◌, not, List, [], ◌∷◌, ◌++◌, map, filter}
+use Rattle.std.proofs.Common.{◌≡◌, subst, refl, Bool, true, false, cond, ◌||◌, List, [], ◌∷◌, ◌++◌, map, filter}
 use Rattle.std.specs.List.{list_any, flat_map}
 use Rattle.jp_query.specs.Meaning.{Env, Row, or_else}
-use Rattle.jp_laws.specs.Agreement.{Alike, none, more}
+use Rattle.jp_induction.specs.Alike.{Alike, none, more}
 
 pub alike_append : {R : Env → Env → Type 0} {xs ys us vs : List Env} → Alike R xs ys → Alike R us vs → Alike R (xs ++ us) (ys ++ vs)
 alike_append none h = h

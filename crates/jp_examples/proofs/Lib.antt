@@ -1,0 +1,3 @@
+pub mod Rejected
+pub mod Runs
+pub mod TestLaws

@@ -1,0 +1,10 @@
+pub mod Alike
+pub mod Between
+pub mod EachPart
+pub mod HandedDown
+pub mod Induction
+pub mod Levels
+pub mod MeaningKept
+pub mod Meanings
+pub mod Rewriting
+pub mod RewritingUnder

@@ -1,0 +1,4 @@
+pub mod Alike
+pub mod Each
+pub mod HandedDown
+pub mod Rewritings
