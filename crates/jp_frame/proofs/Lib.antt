@@ -1,0 +1,12 @@
+pub mod BagLaws
+pub mod EnoughLaws
+pub mod ExampleLaws
+pub mod LegalLaws
+pub mod ListLaws
+pub mod MapLaws
+pub mod PermutationLaws
+pub mod Reading
+pub mod RowLaws
+pub mod Sets
+pub mod StepLaws
+pub mod TreeLaws
