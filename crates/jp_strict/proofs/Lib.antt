@@ -1,0 +1,2 @@
+pub mod SoundLists
+pub mod SoundTests
