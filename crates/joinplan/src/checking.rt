@@ -86,8 +86,6 @@ fn push_count(text: &mut Vec<u8>, name: &str, rows: u64) -> Result<(), Memory>
 fn push_bytes(text: &mut Vec<u8>, bytes: &[u8]) -> Result<(), Memory>
     ensures { OnOk result (text.new.items ≡ text.old.items ++ bytes.now) }
 {
-    match text.extend_from_slice(bytes) {
-        Ok(()) => Ok(()),
-        Err(_) => Err(Memory),
-    }
+    text.extend_from_slice(bytes)?;
+    Ok(())
 }

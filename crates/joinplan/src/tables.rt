@@ -54,10 +54,7 @@ fn no_tables(alloc: Global, catalog: &Catalog) -> Result<Tables, Memory>
 {
     let mut list = Items::new(alloc);
     for _ in 0..catalog.tables.len() {
-        match list.push(None) {
-            Ok(()) => {}
-            Err(_) => return Err(Memory),
-        }
+        list.push(None)?;
     }
     Ok(Tables { list })
 }
@@ -68,10 +65,10 @@ fn push_tables(tree: &JoinTree, places: &mut Vec<u32>) -> Result<(), Memory>
     ensures { OnOk result (places.new.items ≡ places.old.items ++ mentioned tree.now) }
 {
     match tree {
-        JoinTree::Base { table, .. } => match places.push(*table) {
-            Ok(()) => Ok(()),
-            Err(_) => Err(Memory),
-        },
+        JoinTree::Base { table, .. } => {
+            places.push(*table)?;
+            Ok(())
+        }
         JoinTree::Join { left, right, .. } => {
             push_tables(left.get(), places)?;
             push_tables(right.get(), places)?;

@@ -1,4 +1,5 @@
 pub mod GreatestPart
+pub mod MaskAlgebra
 pub mod SetLemmas
 pub mod ValueOrder
 pub mod WalkLemmas

@@ -6,13 +6,13 @@ use Rattle.std.specs.Cmp.{IsTotalOrder, IsStrictWeakOrder, bool_cmp_total}
 use Rattle.std.specs.Cmp.Lexicographic.{slice_cmp}
 use Rattle.std.specs.declared.cmp.Ordering.{Ordering}
 use Rattle.std.specs.declared.cmp.Ordering.TheVariants.{Less, Equal, Greater}
-use Rattle.std.specs.Ordering.{is_lt, ordering_reverse, nat_cmp, int_cmp, bool_cmp, on, then_cmp, ordering_then}
+use Rattle.std.specs.Ordering.{is_eq, ordering_reverse, nat_cmp, int_cmp, bool_cmp, on, then_cmp, ordering_then}
 use Rattle.std.proofs.lemmas.Cmp.{then_total, on_total, nat_cmp_total, int_cmp_total, nat_list_cmp_total, tied_itself}
 use Rattle.std.proofs.lemmas.List.MinMax.{ranks_by}
 use Rattle.std.proofs.lemmas.Map.Lookups.{exact_signed, exact_bytes}
 use Rattle.jp_base.specs.declared.values.Value.{Value}
 use Rattle.jp_base.specs.declared.values.Value.TheVariants as value
-use Rattle.jp_base.specs.Values.{order_of, type_rank, total_order_of, is_below}
+use Rattle.jp_base.specs.Values.{order_of, type_rank, total_order_of, is_below, are_equal}
 
 abbrev number_in : Value → ℤ
 number_in (value.Num n) = n
@@ -90,6 +90,27 @@ tie_equal (value.Text a) value.Null h = cc
 tie_equal (value.Text a) (value.Num b) h = cc
 tie_equal (value.Text a) (value.Bool b) h = cc
 tie_equal (value.Text a) (value.Text b) h = ap (λ n. value.Text n) (exact_bytes a b h)
+
+pub tied : (o : Ordering) → is_eq o ≡ true → o ≡ Equal
+tied Less e = cc
+tied Equal e = refl
+tied Greater e = cc
+
+-- values that are equal are one
+pub equal_is : (a b : Value) → are_equal a b ≡ true → a ≡ b
+equal_is value.Null b e = cc
+equal_is (value.Num a) value.Null e = cc
+equal_is (value.Num a) (value.Num b) e = tie_equal (value.Num a) (value.Num b) (tied (int_cmp a b) e)
+equal_is (value.Num a) (value.Bool b) e = cc
+equal_is (value.Num a) (value.Text b) e = cc
+equal_is (value.Bool a) value.Null e = cc
+equal_is (value.Bool a) (value.Num b) e = cc
+equal_is (value.Bool a) (value.Bool b) e = tie_equal (value.Bool a) (value.Bool b) (tied (bool_cmp a b) e)
+equal_is (value.Bool a) (value.Text b) e = cc
+equal_is (value.Text a) value.Null e = cc
+equal_is (value.Text a) (value.Num b) e = cc
+equal_is (value.Text a) (value.Bool b) e = cc
+equal_is (value.Text a) (value.Text b) e = tie_equal (value.Text a) (value.Text b) (tied (slice_cmp nat_cmp a b) e)
 
 pub equal_tie : (a b : Value) → a ≡ b → total_order_of a b ≡ Equal
 equal_tie a b e = ap (total_order_of a) (sym e) ∙ tied_itself values_total a

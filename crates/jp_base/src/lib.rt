@@ -2,6 +2,7 @@
 #![tactic(auto)]
 
 mod cells;
+mod memory;
 mod sets;
 #[cfg(test)]
 mod tests;
@@ -10,6 +11,7 @@ mod truth;
 mod values;
 
 pub use cells::{Cell, compare, total_order, values_are_ordered};
+pub use memory::Memory;
 pub use sets::{RelSet, each_part_once, members_below, same_members};
 pub use text::Txt;
 pub use truth::Truth;
@@ -26,7 +28,3 @@ pub type JoinNo = u8;
 
 /// The number of a sublink of a statement, counted from 1.
 pub type SubNo = u8;
-
-/// Memory was refused.
-#[derive(Clone, Copy, Debug, PartialEq, Eq)]
-pub struct Memory;

@@ -34,10 +34,8 @@ impl Txt {
     pub fn new(alloc: Global, text: &str) -> Result<Txt, Memory>
         ensures { IfOk result (λ t. t ≡ text.now) }
     {
-        match String::from_str(alloc, text) {
-            Ok(text) => Ok(Txt { text }),
-            Err(_) => Err(Memory),
-        }
+        let text = String::from_str(alloc, text)?;
+        Ok(Txt { text })
     }
 
     /// The text, lent.

@@ -1,6 +1,6 @@
 -- What was read is sound.
-use Rattle.std.proofs.Common.{◌≡◌, ℕ, ◌+◌, ◌<◌, ◌≤◌, ◌==◌, Bool, true, false, ◌||◌, ◌&&◌, nat_eq, nat_le, List, [], ◌∷◌, ◌++◌, length, Option, Some, None, Ok, Err, pos, negsuc, ℤ, codes, refl, ap, subst, arith, length-append, inl, inr}
-use Rattle.std.proofs.lemmas.Bool.{cases_Bool}
+use Rattle.std.proofs.Common.{◌≡◌, ℕ, ◌+◌, ◌<◌, ◌≤◌, ◌==◌, Bool, true, false, ◌&&◌, nat_eq, nat_le, List, [], ◌∷◌, ◌++◌, length, Option, Some, None, Ok, Err, pos, negsuc, ℤ, codes, refl, ap, subst, arith, length-append, inl, inr}
+use Rattle.std.proofs.lemmas.Bool.{cases_Bool, or_parts}
 use Rattle.std.proofs.lemmas.Bool.Decides.{nat_tests}
 use Rattle.std.proofs.lemmas.Cmp.{nat_list_eq_equiv}
 use Rattle.std.proofs.lemmas.List.Elements.{All-nil, All-cons, All-push, All-append}
@@ -31,15 +31,11 @@ apart_push : {K : Type 0} (eq : K → K → Bool) (x : K) (ks : List K) (k : K) 
 apart_push eq x [] k h e = (e, tt)
 apart_push eq x (y ∷ ks) k h e = (h.0, apart_push eq x ks k h.1 e)
 
-neither : (a b : Bool) → (a || b) ≡ false → (a ≡ false) × (b ≡ false)
-neither true b h = cc
-neither false b h = (refl, h)
-
 distinct_push : {K : Type 0} (eq : K → K → Bool) (ks : List K) (k : K) → IsDistinct eq ks → list_any (λ x. eq x k) ks ≡ false → IsDistinct eq (ks ++ k ∷ [])
 unfolding IsDistinct
 distinct_push eq [] k d none = (tt, tt)
 distinct_push eq (x ∷ ks) k d none =
-    let (here, more) = neither (eq x k) (list_any (λ y. eq y k) ks) none in
+    let (here, more) = or_parts (eq x k) (list_any (λ y. eq y k) ks) none in
     (apart_push eq x ks k d.0 here, distinct_push eq ks k d.1 more)
 
 not_found : {X : Type 0} (name : List ℕ) (found : List (List ℕ × X)) → value_of name found ≡ None → list_any (λ x. bytes_eq x name) (keys_of found) ≡ false

@@ -1,10 +1,11 @@
 -- What a text says: a catalogue, or the first refusal in the order of checks.
-use Rattle.std.specs.Prelude.{◌≡◌, ◌⊎◌, ℕ, ◌+◌, ◌==◌, ℤ, pos, negsuc, List, [], ◌∷◌, ◌++◌, length, Bool, true, false, ◌&&◌, if◌then◌else◌, nat_eq, nat_le, Option, Some, None, Result, Ok, Err, codes}
+use Rattle.std.specs.Prelude.{ℕ, ◌+◌, ◌==◌, ℤ, pos, negsuc, List, [], ◌∷◌, ◌++◌, length, Bool, true, false, ◌&&◌, if◌then◌else◌, nat_eq, nat_le, Option, Some, None, Result, Ok, Err, codes}
 use Rattle.std.specs.Borrow.{Bor}
 use Rattle.std.specs.List.{list_any}
 use Rattle.std.specs.Str.{bytes_eq, is_utf8}
 use Rattle.toml.specs.Data.{Data, integer, Items, no_items, item, Members, no_members, member, get_member, as_str, as_integer, as_array, as_table}
 use Rattle.toml.specs.Parse.{parse_document}
+use Rattle.jp_base.specs.Answers.{OrMemory}
 use Rattle.jp_base.specs.declared.values.Ty.{Ty}
 use Rattle.jp_base.specs.declared.values.Ty.TheVariants.{Number, Boolean, Text}
 use Rattle.jp_catalog.specs.Levels.{has_key}
@@ -207,4 +208,4 @@ catalogue_of bytes = if is_utf8 bytes then document_read (parse_document bytes) 
 
 -- the answer is what the definition says, or want of memory
 abbrev pub Agrees : {A : Type 0} → Read A → Read A → Type 0
-Agrees answer defined = (answer ≡ Err error.Memory) ⊎ (answer ≡ defined)
+Agrees answer defined = OrMemory error.Memory defined answer

@@ -45,10 +45,7 @@ fn undoubled(alloc: Global, quote: u8, text: &[u8]) -> Result<Vec<u8>, Memory>
             is_second = false;
             continue;
         }
-        match content.push(*b) {
-            Ok(()) => {}
-            Err(_) => return Err(Memory),
-        }
+        content.push(*b)?;
         is_second = *b == quote;
     }
     Ok(content)

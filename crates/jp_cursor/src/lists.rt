@@ -37,20 +37,16 @@ pub fn one<T: Drop>(alloc: Global, item: T) -> Result<Items<T>, Memory>
     ensures { IfOk result (λ items. items ≡ item ∷ []) }
 {
     let mut items = Items::new(alloc);
-    match items.push(item) {
-        Ok(()) => Ok(items),
-        Err(_) => Err(Memory),
-    }
+    items.push(item)?;
+    Ok(items)
 }
 
 /// The items of both.
 pub fn followed<T: Drop>(mut first: Items<T>, more: Items<T>) -> Result<Items<T>, Memory>
     ensures { IfOk result (λ items. items ≡ first ++ more) }
 {
-    match first.append(more) {
-        Ok(()) => Ok(first),
-        Err(_) => Err(Memory),
-    }
+    first.append(more)?;
+    Ok(first)
 }
 
 /// The items with one more in front.

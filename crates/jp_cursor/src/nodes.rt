@@ -14,10 +14,8 @@ use std::alloc::Global;
 pub fn boxed<T: Drop>(alloc: Global, value: T) -> Result<Boxed<T>, Memory>
     ensures { IfOk result (λ b. b ≡ value) }
 {
-    match Boxed::new(alloc, value) {
-        Ok(boxed) => Ok(boxed),
-        Err(_) => Err(Memory),
-    }
+    let boxed = Boxed::new(alloc, value)?;
+    Ok(boxed)
 }
 
 /// The chains whose members stand in one list.
@@ -135,10 +133,7 @@ fn turned<T: Drop>(alloc: Global, mut items: Items<T>) -> Result<Items<T>, Memor
 {
     let mut turned = Items::new(alloc);
     'items: while let Some(item) = items.pop() {
-        match turned.push(item) {
-            Ok(()) => {}
-            Err(_) => return Err(Memory),
-        }
+        turned.push(item)?;
     }
     Ok(turned)
 }

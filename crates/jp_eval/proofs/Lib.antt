@@ -1,2 +1,5 @@
-pub mod AgreeLaw
-pub mod ValueLaws
+pub mod ComputedLaws
+pub mod ConcatenationLaws
+pub mod ExactLaws
+pub mod LiteralLaws
+pub mod NumberLaws

@@ -1,1 +1,5 @@
-pub mod Truths
+pub mod Arithmetic
+pub mod Computed
+pub mod Concatenation
+pub mod Evaluated
+pub mod Evaluation

@@ -1,11 +1,11 @@
 ghost use Rattle.std.specs.Prelude.{◌≡◌, ℕ, List};
 ghost use Rattle.jp_query.specs.declared.Expr.{Expr};
-ghost use Rattle.jp_query.specs.Meaning.{Row, Env, value_of, value_given};
-ghost use Rattle.jp_query.specs.Evaluable.{IsEvaluable};
+ghost use Rattle.jp_query.specs.Meaning.{Row, Env, value_given};
+ghost use Rattle.jp_eval.specs.Computed.{computed};
+ghost use Rattle.jp_eval.specs.Evaluation.{CanEvaluate};
 
-/// A law: an expression that the evaluator takes has no sublink, so its value is the same with any rows for sublinks as
-/// with sublinks in place, over any tables.
-pub fn sublinks_stay_out()
-    ensures { (expr : Expr) → IsEvaluable expr → (rows tables : ℕ → List Row) (env : Env) →
-        value_given rows expr env ≡ value_of tables expr env }
+/// A law: where an expression can be evaluated, no number passes 128 bits on the way, and what arithmetic in 128 bits gives is
+/// its value.
+pub fn values_in_128_bits_are_exact()
+    ensures { (rows : ℕ → List Row) (expr : Expr) (env : Env) → CanEvaluate rows expr env → computed rows expr env ≡ value_given rows expr env }
 {}

@@ -2,23 +2,26 @@
 //! environment that the caller brings.
 #![tactic(auto)]
 
-ghost use Rattle.std.specs.Prelude.{◌≡◌, ℕ, List, IsOk, IfOk};
+ghost use Rattle.std.specs.Prelude.{◌≡◌, ℕ, List, true, IfOk, OnErr};
 ghost use Rattle.jp_base.specs.Cells.{value_of_cell};
-ghost use Rattle.jp_query.specs.Meaning.{Row, Env as Environment, cell_in, value_of, value_given, truth_of, truth_given};
+ghost use Rattle.jp_query.specs.Meaning.{Row, Env as Environment, cell_in, value_given, truth_given};
 ghost use Rattle.jp_placeholder.specs.Present.{IsPresentSet};
-ghost use Rattle.jp_query.specs.Evaluable.{IsEvaluable};
+ghost use Rattle.jp_eval.specs.Computed.{computed};
+ghost use Rattle.jp_eval.specs.Concatenation.{has_concatenation};
+ghost use Rattle.jp_eval.specs.Evaluation.{CanEvaluate};
 
+mod arithmetic;
+mod evaluated;
+mod evaluation;
 mod laws;
-mod lent;
 mod operators;
 #[cfg(test)]
 mod tests;
 
+use evaluation::evaluate;
 use jp_base::{Cell, Memory, RelNo, RelSet, Row, SubNo, Truth, Value};
 use jp_query::Expr;
-pub use laws::sublinks_stay_out;
-use lent::lent_value;
-use operators::truth_of_cell;
+pub use laws::values_in_128_bits_are_exact;
 use std::alloc::Global;
 
 /// What an expression is evaluated in: a row, or none, for each relation, and rows for each sublink. An implementation
@@ -45,20 +48,28 @@ pub trait Env {
 
 /// The value of an expression, in memory of its own. Only a text takes memory.
 pub fn eval<E: Env>(alloc: Global, expr: &Expr, env: &E) -> Result<Value, Memory>
-    requires { IsEvaluable expr.now }
-    ensures given { IfOk result (λ v. v ≡ value_given (E.sublink_rows env.now) expr.now (E.environment env.now)) }
-    ensures in_place { (tables : ℕ → List Row) → IfOk result (λ v. v ≡ value_of tables expr.now (E.environment env.now)) }
+    requires { CanEvaluate (E.sublink_rows env.now) expr.now (E.environment env.now) }
+    ensures { IfOk result (λ v. v ≡ value_given (E.sublink_rows env.now) expr.now (E.environment env.now)) }
 {
-    let value = lent_value(expr, env).to_value(alloc)?;
+    let value = eval_in_128_bits(alloc, expr, env)?;
     Ok(value)
 }
 
-/// The truth of a condition. It takes no memory: it compares lent cells and copies no text.
-pub fn holds<E: Env>(expr: &Expr, env: &E) -> Result<Truth, Memory>
-    requires { IsEvaluable expr.now }
-    ensures no_memory { IsOk result }
-    ensures given { IfOk result (λ t. t ≡ truth_given (E.sublink_rows env.now) expr.now (E.environment env.now)) }
-    ensures in_place { (tables : ℕ → List Row) → IfOk result (λ t. t ≡ truth_of tables expr.now (E.environment env.now)) }
+/// The value of any expression by arithmetic in 128 bits, in which a number that they don't hold counts as NULL. Of an
+/// expression that `eval` takes it is the value, as `values_in_128_bits_are_exact` says.
+pub fn eval_in_128_bits<E: Env>(alloc: Global, expr: &Expr, env: &E) -> Result<Value, Memory>
+    ensures { IfOk result (λ v. v ≡ computed (E.sublink_rows env.now) expr.now (E.environment env.now)) }
 {
-    Ok(truth_of_cell(lent_value(expr, env)))
+    let value = evaluate(alloc, expr, env)?.into_value(alloc)?;
+    Ok(value)
+}
+
+/// The truth of a condition. Without `||` it takes no memory: it compares lent cells and copies no text.
+pub fn holds<E: Env>(alloc: Global, expr: &Expr, env: &E) -> Result<Truth, Memory>
+    requires { CanEvaluate (E.sublink_rows env.now) expr.now (E.environment env.now) }
+    ensures truth { IfOk result (λ t. t ≡ truth_given (E.sublink_rows env.now) expr.now (E.environment env.now)) }
+    ensures memory { OnErr result (has_concatenation expr.now ≡ true) }
+{
+    let truth = evaluate(alloc, expr, env)?.truth();
+    Ok(truth)
 }

@@ -14,11 +14,12 @@ use Rattle.jp_frame.specs.Rows.{Lives, maps, is_row, row_set, InRowSet, IsRow}
 use Rattle.jp_frame.specs.Steps.{Step, Inner, By, IsLegal, HasPartner, HasNoPartner, JoinedBy, IsCandidate, IsEnough}
 use Rattle.jp_frame.specs.Methods.{none_row, one_row, rows_of_item, scan, AllActive, IsEnoughAtScan, matches, is_matched, left_rows, once_where, joined_rows, plain, Method, IsAllowed, list_of}
 use Rattle.jp_frame.proofs.Sets.{decide_has}
-use Rattle.jp_frame.proofs.ListLaws.{In, Distinct, from_filter, in_filter, any_in, any_none, from_any, none_any, in_map, from_map, in_flat_map, from_flat_map, distinct_filter, distinct_map, distinct_flat_map}
+use Rattle.jp_facts.proofs.Members.{In, Distinct, from_filter, in_filter, any_in, any_none, from_any, none_any, in_map, from_map, in_flat_map, from_flat_map, distinct_filter, distinct_map, distinct_flat_map}
 use Rattle.jp_frame.proofs.MapLaws.{part_on, part_off, length_part, both_left, both_right, length_both, map_same, none_or_some, outside, lives_wider, lives_both, part_whole, part_agree, in_maps, from_maps, distinct_maps}
 use Rattle.jp_frame.proofs.Reading.{row_at, row_from}
 use Rattle.jp_frame.proofs.PermutationLaws.{method_permuted, keeps}
-use Rattle.jp_frame.proofs.StepLaws.{in_left, in_right, step_to, step_from, none_done}
+use Rattle.jp_base.proofs.MaskAlgebra.{in_left, in_right}
+use Rattle.jp_frame.proofs.StepLaws.{step_to, step_from, none_done}
 
 pub record Lists (f : Frame) (set : ℕ) (rows : List Map) : Type 0 where
   pub to : (m : Map) → In m rows → InRowSet f set m

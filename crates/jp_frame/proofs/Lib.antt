@@ -2,7 +2,6 @@ pub mod BagLaws
 pub mod EnoughLaws
 pub mod ExampleLaws
 pub mod LegalLaws
-pub mod ListLaws
 pub mod MapLaws
 pub mod PermutationLaws
 pub mod Reading

@@ -7,7 +7,7 @@ use Rattle.jp_frame.specs.Maps.{Map, at, has, Agree, NoneOn, kept, part_from, pa
 use Rattle.jp_frame.specs.Frames.{Frame, Apart}
 use Rattle.jp_frame.specs.Rows.{Lives, rows_from, choices, with_first, maps_from, maps}
 use Rattle.jp_frame.proofs.Sets.{decide_has}
-use Rattle.jp_frame.proofs.ListLaws.{In, Distinct, in_map, from_map, in_flat_map, from_flat_map, distinct_map, distinct_flat_map}
+use Rattle.jp_facts.proofs.Members.{In, Distinct, in_map, from_map, in_flat_map, from_flat_map, distinct_map, distinct_flat_map}
 
 pub has_true : (set i : ℕ) → Has set i → has set i ≡ true
 has_true set i h = eq-eqb (bit_at set i) 1 h

@@ -9,7 +9,7 @@ use Rattle.jp_frame.specs.Maps.{Map, both}
 use Rattle.jp_frame.specs.Frames.{Frame, Kind, Left, Semi, Anti}
 use Rattle.jp_frame.specs.Steps.{Step, Inner, By}
 use Rattle.jp_frame.specs.Methods.{matches, is_matched, left_rows, once_where, joined_rows, plain, both_with, matches_to, is_unmatched, right_first, inserted, sorted_by, Method, Nest, Hash, HashRight, Merge, IsAllowed, list_of}
-use Rattle.jp_frame.proofs.ListLaws.{In, Distinct, from_any, any_none, in_filter, from_filter}
+use Rattle.jp_facts.proofs.Members.{In, Distinct, from_any, any_none, in_filter, from_filter}
 
 -- ---- two lists per element
 

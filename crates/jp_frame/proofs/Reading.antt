@@ -10,7 +10,7 @@ use Rattle.jp_frame.specs.Frames.{Frame, IsFrame, Kind, Left, Semi, Anti, IsInsi
 use Rattle.jp_frame.specs.Legal.{IsDone, IsOuter, IsActive}
 use Rattle.jp_frame.specs.Rows.{maps, is_within, done, inside, holds_inside, outer, region_done, active, may_be_none_by, is_none_at, is_none_on, meets_with, has_match, condition_of, condition, item_met, join_met, clause_met, is_row_within, is_row, InRowSet, HasNoMatch, HasMatch, ConditionOf, IsRow}
 use Rattle.jp_frame.proofs.Sets.{decide_has}
-use Rattle.jp_frame.proofs.ListLaws.{In, in_filter, from_filter, any_in, from_any, any_none, none_any}
+use Rattle.jp_facts.proofs.Members.{In, in_filter, from_filter, any_in, from_any, any_none, none_any}
 use Rattle.jp_frame.proofs.MapLaws.{has_true, has_false, past_end, none_or_some, in_maps, from_maps}
 use Rattle.jp_frame.proofs.LegalLaws.{right_smaller}
 

@@ -2,6 +2,7 @@
 use Rattle.std.proofs.Common.{◌≡◌, ◌∙◌, ap, sym, subst, refl, ℕ, ◌<◌, ◌⊎◌, inl, inr, true, arith, None}
 use Rattle.std.specs.Prelude.{bit_or}
 use Rattle.jp_base.specs.Sets.{Has, Within}
+use Rattle.jp_base.proofs.MaskAlgebra.{in_left, in_right}
 use Rattle.jp_base.proofs.SetLemmas.{has_or}
 use Rattle.jp_frame.specs.Maps.{Map, at, NoneOn, part, both}
 use Rattle.jp_frame.specs.Frames.{Frame, IsFrame, Kind, Left, Semi, Anti, Apart, IsInside}
@@ -13,12 +14,6 @@ use Rattle.jp_frame.proofs.LegalLaws.{covered, region_here, only_right, none_han
 use Rattle.jp_frame.proofs.MapLaws.{part_on, part_off, length_part, both_left, both_right, map_same, outside, lives_part}
 use Rattle.jp_frame.proofs.Reading.{row_at, row_from}
 use Rattle.jp_frame.proofs.RowLaws.{condition_local, in_part, hanging_met, in_whole, of_part, none_everywhere, none_meets}
-
-pub in_left : (a b : ℕ) → Within a (bit_or a b)
-in_left a b i p = (has_or a b i).1 (inl p)
-
-pub in_right : (a b : ℕ) → Within b (bit_or a b)
-in_right a b i p = (has_or a b i).1 (inr p)
 
 done_wider : (f : Frame) (a b s : ℕ) → Within a b → IsDone f a s → IsDone f b s
 done_wider f a b s w d = record { join = d.join; left = λ i p. w i (d.left i p); right = λ i p. w i (d.right i p) }

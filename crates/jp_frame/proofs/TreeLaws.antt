@@ -7,7 +7,7 @@ use Rattle.jp_frame.specs.Frames.{Frame, IsFrame}
 use Rattle.jp_frame.specs.Rows.{row_set}
 use Rattle.jp_frame.specs.Methods.{IsOther, ListsOnce}
 use Rattle.jp_frame.specs.Trees.{Tree, Scan, Join, set_of, IsLegalTree, rows_of}
-use Rattle.jp_frame.proofs.ListLaws.{In, Distinct, to_in, from_in, in_append_left, in_append_right, from_append}
+use Rattle.jp_facts.proofs.Members.{In, Distinct, to_in, from_in, in_append_left, in_append_right, from_append}
 use Rattle.jp_frame.proofs.BagLaws.{Lists, row_set_lists, scan_lists, method_lists}
 
 -- ---- two lists without repeats and with the same members are permutations

@@ -21,6 +21,11 @@ module _ {X : Type 0} where
   all_of_each P (x ∷ xs) h zero d low = h.0
   all_of_each P (x ∷ xs) h (suc k) d low = all_of_each P xs h.1 k d (omega (arith, low))
 
+  -- what holds of everything
+  pub each_anyway : (P : X → Type 0) → ((x : X) → P x) → (xs : List X) → Each P xs
+  each_anyway P always [] = tt
+  each_anyway P always (x ∷ xs) = (always x, each_anyway P always xs)
+
   pub each_left : (P : X → Type 0) (xs ys : List X) → Each P (xs ++ ys) → Each P xs
   each_left P [] ys h = tt
   each_left P (x ∷ xs) ys h = (h.0, each_left P xs ys h.1)

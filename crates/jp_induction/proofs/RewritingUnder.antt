@@ -18,79 +18,79 @@ module _ (A B C D F A' B' C' D' F' : Type 0)
     (e : Expr-F A B C D F → A) (t : JoinTree-F A B C D F → B) (o : Order-F A B C D F → C) (u : Output-F A B C D F → D) (q : Query-F A B C D F → F)
     (e' : Expr-F A' B' C' D' F' → A') (t' : JoinTree-F A' B' C' D' F' → B') (o' : Order-F A' B' C' D' F' → C') (u' : Output-F A' B' C' D' F' → D') (q' : Query-F A' B' C' D' F' → F')
     (fa : A → A') (fb : B → B') (fc : C → C') (fd : D → D') (ff : F → F') where
-  abbrev of_expr : Expr → A
+  abbrev pub of_expr : Expr → A
   of_expr = fold-Expr A B C D F e t o u q
 
-  abbrev to_expr : Expr → A'
+  abbrev pub to_expr : Expr → A'
   to_expr = fold-Expr A' B' C' D' F' e' t' o' u' q'
 
-  abbrev ExprSame : Expr → Type 0
+  abbrev pub ExprSame : Expr → Type 0
   ExprSame x = fa (of_expr x) ≡ to_expr x
 
-  abbrev of_tree : JoinTree → B
+  abbrev pub of_tree : JoinTree → B
   of_tree = fold-JoinTree A B C D F e t o u q
 
-  abbrev to_tree : JoinTree → B'
+  abbrev pub to_tree : JoinTree → B'
   to_tree = fold-JoinTree A' B' C' D' F' e' t' o' u' q'
 
-  abbrev JoinTreeSame : JoinTree → Type 0
+  abbrev pub JoinTreeSame : JoinTree → Type 0
   JoinTreeSame x = fb (of_tree x) ≡ to_tree x
 
-  abbrev of_order : Order → C
+  abbrev pub of_order : Order → C
   of_order = fold-Order A B C D F e t o u q
 
-  abbrev to_order : Order → C'
+  abbrev pub to_order : Order → C'
   to_order = fold-Order A' B' C' D' F' e' t' o' u' q'
 
-  abbrev OrderSame : Order → Type 0
+  abbrev pub OrderSame : Order → Type 0
   OrderSame x = fc (of_order x) ≡ to_order x
 
-  abbrev of_output : Output → D
+  abbrev pub of_output : Output → D
   of_output = fold-Output A B C D F e t o u q
 
-  abbrev to_output : Output → D'
+  abbrev pub to_output : Output → D'
   to_output = fold-Output A' B' C' D' F' e' t' o' u' q'
 
-  abbrev OutputSame : Output → Type 0
+  abbrev pub OutputSame : Output → Type 0
   OutputSame x = fd (of_output x) ≡ to_output x
 
-  abbrev of_query : Query → F
+  abbrev pub of_query : Query → F
   of_query = fold-Query A B C D F e t o u q
 
-  abbrev to_query : Query → F'
+  abbrev pub to_query : Query → F'
   to_query = fold-Query A' B' C' D' F' e' t' o' u' q'
 
-  abbrev QuerySame : Query → Type 0
+  abbrev pub QuerySame : Query → Type 0
   QuerySame x = ff (of_query x) ≡ to_query x
 
-  abbrev turned_expr : Expr-F A B C D F → Expr-F A' B' C' D' F'
+  abbrev pub turned_expr : Expr-F A B C D F → Expr-F A' B' C' D' F'
   turned_expr = map-Expr A B C D F A' B' C' D' F' fa fb fc fd ff
 
-  abbrev turned_tree : JoinTree-F A B C D F → JoinTree-F A' B' C' D' F'
+  abbrev pub turned_tree : JoinTree-F A B C D F → JoinTree-F A' B' C' D' F'
   turned_tree = map-JoinTree A B C D F A' B' C' D' F' fa fb fc fd ff
 
-  abbrev turned_order : Order-F A B C D F → Order-F A' B' C' D' F'
+  abbrev pub turned_order : Order-F A B C D F → Order-F A' B' C' D' F'
   turned_order = map-Order A B C D F A' B' C' D' F' fa fb fc fd ff
 
-  abbrev turned_output : Output-F A B C D F → Output-F A' B' C' D' F'
+  abbrev pub turned_output : Output-F A B C D F → Output-F A' B' C' D' F'
   turned_output = map-Output A B C D F A' B' C' D' F' fa fb fc fd ff
 
-  abbrev turned_query : Query-F A B C D F → Query-F A' B' C' D' F'
+  abbrev pub turned_query : Query-F A B C D F → Query-F A' B' C' D' F'
   turned_query = map-Query A B C D F A' B' C' D' F' fa fb fc fd ff
 
-  abbrev expr_level : ExprLayer → Expr-F A B C D F
+  abbrev pub expr_level : ExprLayer → Expr-F A B C D F
   expr_level = map-Expr Expr JoinTree Order Output Query A B C D F of_expr of_tree of_order of_output of_query
 
-  abbrev tree_level : JoinTreeLayer → JoinTree-F A B C D F
+  abbrev pub tree_level : JoinTreeLayer → JoinTree-F A B C D F
   tree_level = map-JoinTree Expr JoinTree Order Output Query A B C D F of_expr of_tree of_order of_output of_query
 
-  abbrev order_level : OrderLayer → Order-F A B C D F
+  abbrev pub order_level : OrderLayer → Order-F A B C D F
   order_level = map-Order Expr JoinTree Order Output Query A B C D F of_expr of_tree of_order of_output of_query
 
-  abbrev output_level : OutputLayer → Output-F A B C D F
+  abbrev pub output_level : OutputLayer → Output-F A B C D F
   output_level = map-Output Expr JoinTree Order Output Query A B C D F of_expr of_tree of_order of_output of_query
 
-  abbrev query_level : QueryLayer → Query-F A B C D F
+  abbrev pub query_level : QueryLayer → Query-F A B C D F
   query_level = map-Query Expr JoinTree Order Output Query A B C D F of_expr of_tree of_order of_output of_query
 
   module _ (S : Type 0) (inside : S → JoinTreeLayer → S) (above : S → QueryLayer → S) (CE : S → Expr → Type 0) (CT : S → JoinTree → Type 0) (CO : S → Order → Type 0) (CU : S → Output → Type 0) (CQ : S → Query → Type 0) (down : HandsDown S inside above CE CT CO CU CQ)

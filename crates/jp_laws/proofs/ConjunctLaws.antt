@@ -20,9 +20,8 @@ use Rattle.jp_query.specs.Meaning.{Row, Env, ValueIn, Tuples, SortKey, RowsIn, S
 use Rattle.jp_query.specs.Operators.{value_of_truth, truth_of_value, is_true, all_of}
 use Rattle.jp_query.specs.Parts.{all_in}
 use Rattle.jp_query.specs.Subexpressions.{Exprs, exprs_beside}
-use Rattle.jp_laws.proofs.DistinctLaws.{In}
+use Rattle.jp_facts.proofs.Members.{In, from_append}
 use Rattle.jp_laws.proofs.LevelLaws.{values_go}
-use Rattle.jp_laws.proofs.MemberLaws.{in_either}
 
 abbrev Plain : Type 0
 Plain = Expr-F Expr JoinTree Order Output Query
@@ -75,7 +74,7 @@ and_assoc : (a b c : Bool) → ((a && b) && c) ≡ (a && (b && c))
 and_assoc true b c = refl
 and_assoc false b c = refl
 
-all_from : (t : Truth) (ts : List Truth) → is_true (fold and_of t ts) ≡ (is_true t && list_all is_true ts)
+pub all_from : (t : Truth) (ts : List Truth) → is_true (fold and_of t ts) ≡ (is_true t && list_all is_true ts)
 all_from t [] = sym (and-true (is_true t))
 all_from t (u ∷ ts) = all_from (and_of t u) ts ∙ ap (λ b. b && list_all is_true ts) (and_true_of t u) ∙ and_assoc (is_true t) (is_true u) (list_all is_true ts)
 
@@ -154,7 +153,7 @@ SplitE = (x : Expr) × Split x
 
 each_split : (ys : List SplitE) (m : Expr) → In m (all_in (map exprs_beside (map (λ (x : Expr). (x, conjuncts x)) (map (λ (y : SplitE). y.0) ys)))) → IsNoAnd m
 each_split [] m h = absurd h
-each_split (y ∷ ys) m h = elim (in_either m (conjuncts y.0) (all_in (map exprs_beside (map (λ (x : Expr). (x, conjuncts x)) (map (λ (y : SplitE). y.0) ys)))) h) [ inl p ↦ y.1 m p | inr q ↦ each_split ys m q ]
+each_split (y ∷ ys) m h = elim (from_append m (conjuncts y.0) (all_in (map exprs_beside (map (λ (x : Expr). (x, conjuncts x)) (map (λ (y : SplitE). y.0) ys)))) h) [ inl p ↦ y.1 m p | inr q ↦ each_split ys m q ]
 
 abbrev bare_split : Expr-F SplitE (JoinTree × Unit {0}) (Order × Unit {0}) (Output × Unit {0}) (Query × Unit {0}) → Plain
 bare_split = map-Expr SplitE (JoinTree × Unit {0}) (Order × Unit {0}) (Output × Unit {0}) (Query × Unit {0}) Expr JoinTree Order Output Query (λ x. x.0) (λ x. x.0) (λ x. x.0) (λ x. x.0) (λ x. x.0)

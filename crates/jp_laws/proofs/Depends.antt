@@ -24,7 +24,8 @@ use Rattle.jp_induction.proofs.EachPart.{Each, each_weaker, each_both, each_mapp
 use Rattle.jp_induction.proofs.Induction as induction
 use Rattle.jp_laws.specs.Agreement.{Agree}
 use Rattle.jp_laws.specs.SameCells.{IsSameCell, IsSamePresence, AreTwins}
-use Rattle.jp_laws.proofs.Agreeing.{second, has_only}
+use Rattle.jp_laws.proofs.Agreeing.{has_only}
+use Rattle.jp_base.proofs.MaskAlgebra.{right_within}
 use Rattle.jp_laws.proofs.GatheredParts.{in_expr, in_tree, in_order, in_output, in_query, node_level, expr_made, tree_made, query_made, output_made, order_made}
 use Rattle.jp_laws.proofs.GatheredLaws.{Inside, parts_inside, trees_inside, query_inside}
 use Rattle.jp_laws.proofs.CellLaws.{Sees, value_by_cells, tuples_by_cells, rows_by_cells}
@@ -116,7 +117,7 @@ column_node (Expr-F.Col rel col ty nulled) set w = (elim (cases_lt rel 64) [ inl
 column_node x set w = tt
 
 pub place_node : (x : ExprLayer) (set : ℕ) → Within (expr_refs (expr_sets x)) set → Each (Inside set) (node_placeholder (node_level ℕ node_placeholder x))
-place_node (Expr-F.Place inner rels) set w = (second (refs_of inner) rels set w, tt)
+place_node (Expr-F.Place inner rels) set w = (right_within (refs_of inner) rels set w, tt)
 place_node x set w = tt
 
 -- ---- two environments that agree

@@ -1,69 +1,31 @@
 -- DISTINCT keeps the first of the lines with the same outputs.
-use Rattle.std.proofs.Common.{◌≡◌, ◌∙◌, ap, sym, subst, refl, ℕ, suc, zero, ◌+◌, ◌<◌, ◌⊎◌, inl, inr, Bool, true, false, cond, not, List, [], ◌∷◌, ◌++◌, filter, length, get_or, arith}
+use Rattle.std.proofs.Common.{◌≡◌, ap, sym, subst, refl, ℕ, suc, zero, ◌<◌, inl, inr, Bool, true, false, cond, List, [], ◌∷◌, ◌++◌, filter, length, get_or, arith}
 use Rattle.std.specs.Prelude.{All, Contains}
 use Rattle.std.specs.List.{AllPairs}
+use Rattle.std.proofs.lemmas.Bool.{not-false}
 use Rattle.std.proofs.lemmas.List.Elements.{All-cons}
+use Rattle.jp_facts.proofs.Members.{In, to_in, from_in, from_filter, in_filter}
 use Rattle.jp_query.specs.Ordering.{Row, Line, same_rows, differs, first_lines}
 use Rattle.jp_laws.specs.Lines.{IsDifferent, IsDifferentFrom}
 use Rattle.jp_laws.proofs.ValueLaws.{rows_equal, rows_same}
-
-abbrev pub In : {X : Type 0} → X → List X → Type 0
-In x [] = ⊥
-In x (y ∷ ys) = (y ≡ x) ⊎ In x ys
-
-module _ {X : Type 0} where
-  in_at : (x : X) (xs : List X) (k : ℕ) → k < length xs → get_or xs k x ≡ x → In x xs
-  in_at x [] k low e = absurd (omega arith)
-  in_at x (y ∷ ys) zero low e = inl e
-  in_at x (y ∷ ys) (suc k) low e = inr (in_at x ys k (omega arith) e)
-
-  pub to_in : (x : X) (xs : List X) → Contains xs x → In x xs
-  to_in x xs h = in_at x xs h.0 h.1 h.2
-
-  pub from_in : (x : X) (xs : List X) → In x xs → Contains xs x
-  from_in x [] h = absurd h
-  from_in x (y ∷ ys) (inl e) = (0, omega arith, e)
-  from_in x (y ∷ ys) (inr r) = let h = from_in x ys r in (suc h.0, omega (arith, h.1), h.2)
-
-  filtered_at : (p : X → Bool) (x y : X) (ys : List X) (b : Bool) → p y ≡ b → (In x (filter p ys) → (p x ≡ true) × In x ys) → In x (cond b (y ∷ filter p ys) (filter p ys)) → (p x ≡ true) × In x (y ∷ ys)
-  filtered_at p x y ys true e ih (inl q) = (ap p (sym q) ∙ e, inl q)
-  filtered_at p x y ys true e ih (inr r) = let h = ih r in (h.0, inr h.1)
-  filtered_at p x y ys false e ih r = let h = ih r in (h.0, inr h.1)
-
-  pub filtered : (p : X → Bool) (x : X) (xs : List X) → In x (filter p xs) → (p x ≡ true) × In x xs
-  filtered p x [] h = absurd h
-  filtered p x (y ∷ ys) h = filtered_at p x y ys (p y) refl (filtered p x ys) h
-
-  stays : (x y : X) (ys : List X) (b : Bool) → In x ys → In x (cond b (y ∷ ys) ys)
-  stays x y ys true r = inr r
-  stays x y ys false r = r
-
-  passes_filter : (p : X → Bool) (x : X) (xs : List X) → p x ≡ true → In x xs → In x (filter p xs)
-  passes_filter p x [] e h = absurd h
-  passes_filter p x (y ∷ ys) e (inl q) = subst (λ b. In x (cond b (y ∷ filter p ys) (filter p ys))) (sym (ap p q ∙ e)) (inl q)
-  passes_filter p x (y ∷ ys) e (inr r) = stays x y (filter p ys) (p y) (passes_filter p x ys e r)
 
 firsts_in : (lines : List Line) (line : Line) → In line (first_lines lines) → (before : List Line) × (after : List Line) × (lines ≡ before ++ line ∷ after) × All (IsDifferentFrom line) before
 firsts_in [] line h = absurd h
 firsts_in (x ∷ xs) line (inl q) = ([], xs, ap (λ z. z ∷ xs) q, λ k d low. absurd (omega arith))
 firsts_in (x ∷ xs) line (inr r) =
-    let m = filtered (differs x) line (first_lines xs) r in
+    let m = from_filter (differs x) line (first_lines xs) r in
     let h = firsts_in xs line m.1 in
     (x ∷ h.0, h.1, ap (λ zs. x ∷ zs) h.2, All-cons (IsDifferentFrom line) x h.0 m.0 h.3)
 
 pub firsts : (lines : List Line) (line : Line) → Contains (first_lines lines) line → (before : List Line) × (after : List Line) × (lines ≡ before ++ line ∷ after) × All (IsDifferentFrom line) before
 firsts lines line h = firsts_in lines line (to_in line (first_lines lines) h)
 
-pub not_false : (b : Bool) → not b ≡ false → b ≡ true
-not_false true h = refl
-not_false false h = cc
-
 abbrev Kept : List Line → Line → Type 0
 Kept lines line = (kept : Line) × In kept (first_lines lines) × (same_rows kept.outputs line.outputs ≡ true)
 
 kept_after : (x line : Line) (xs : List Line) (h : Kept xs line) (b : Bool) → differs x h.0 ≡ b → Kept (x ∷ xs) line
-kept_after x line xs h true e = (h.0, inr (passes_filter (differs x) h.0 (first_lines xs) e h.1), h.2)
-kept_after x line xs h false e = (x, inl refl, subst (λ (r : Row). same_rows r line.outputs ≡ true) (sym (rows_equal x.outputs h.0.outputs (not_false (same_rows x.outputs h.0.outputs) e))) h.2)
+kept_after x line xs h true e = (h.0, inr (in_filter (differs x) h.0 (first_lines xs) e h.1), h.2)
+kept_after x line xs h false e = (x, inl refl, subst (λ (r : Row). same_rows r line.outputs ≡ true) (sym (rows_equal x.outputs h.0.outputs (not-false (same_rows x.outputs h.0.outputs) e))) h.2)
 
 kept_in : (lines : List Line) (line : Line) → In line lines → Kept lines line
 kept_in [] line h = absurd h
@@ -80,7 +42,7 @@ Apart [] = Unit {0}
 Apart (x ∷ xs) = ((y : Line) → In y xs → IsDifferent x y) × Apart xs
 
 apart_cond : (p : Line → Bool) (x : Line) (xs : List Line) (b : Bool) → ((y : Line) → In y xs → IsDifferent x y) → Apart (filter p xs) → Apart (cond b (x ∷ filter p xs) (filter p xs))
-apart_cond p x xs true h a = (λ y r. h y (filtered p y xs r).1, a)
+apart_cond p x xs true h a = (λ y r. h y (from_filter p y xs r).1, a)
 apart_cond p x xs false h a = a
 
 apart_filter : (p : Line → Bool) (xs : List Line) → Apart xs → Apart (filter p xs)
@@ -89,7 +51,7 @@ apart_filter p (x ∷ xs) a = apart_cond p x xs (p x) a.0 (apart_filter p xs a.1
 
 apart_firsts : (lines : List Line) → Apart (first_lines lines)
 apart_firsts [] = tt
-apart_firsts (x ∷ xs) = (λ y r. (filtered (differs x) y (first_lines xs) r).0, apart_filter (differs x) (first_lines xs) (apart_firsts xs))
+apart_firsts (x ∷ xs) = (λ y r. (from_filter (differs x) y (first_lines xs) r).0, apart_filter (differs x) (first_lines xs) (apart_firsts xs))
 
 in_get : (d : Line) (xs : List Line) (k : ℕ) → k < length xs → In (get_or xs k d) xs
 in_get d [] k low = absurd (omega arith)

@@ -17,8 +17,7 @@ use Rattle.jp_query.specs.Typing.{same_type}
 use Rattle.jp_query.specs.Freshness.{Sublink, Found, found_in, expr_found, tree_found, order_found, output_found, query_found}
 use Rattle.jp_query.specs.Subexpressions.{sublinks_of}
 use Rattle.jp_query.specs.Equality.{same_op, same_test, same_sign, same_each, same_part, same_term, same_arm, same_option, same_level, same_expr}
-use Rattle.jp_laws.proofs.DistinctLaws.{In, from_in}
-use Rattle.jp_laws.proofs.MemberLaws.{in_first, in_rest}
+use Rattle.jp_facts.proofs.Members.{In, from_in, in_append_left, in_append_right}
 use Rattle.jp_laws.proofs.SameWords.{false_true, ops_equal, tests_equal, signs_equal, types_equal, values_equal, numbers_equal, at_level, Plain, tests, test_of_term, test_of_arm, test_of_option}
 use Rattle.jp_laws.proofs.ValueLaws.{and_left, and_right}
 
@@ -27,10 +26,10 @@ abbrev Equal : Found → Found → Type 0
 Equal xs ys = (a b : Sublink) → In a xs → In b ys → a.number ≡ b.number → a.node ≡ b.node
 
 first : (xs more ys others : Found) → Equal (xs ++ more) (ys ++ others) → Equal xs ys
-first xs more ys others p a b h k = p a b (in_first a xs more h) (in_first b ys others k)
+first xs more ys others p a b h k = p a b (in_append_left a xs more h) (in_append_left b ys others k)
 
 rest : (xs more ys others : Found) → Equal (xs ++ more) (ys ++ others) → Equal more others
-rest xs more ys others p a b h k = p a b (in_rest a xs more h) (in_rest b ys others k)
+rest xs more ys others p a b h k = p a b (in_append_right a xs more h) (in_append_right b ys others k)
 
 -- a list of sublinks that stands before nothing
 alone : (xs ys : Found) → Equal (xs ++ []) (ys ++ []) → Equal xs ys

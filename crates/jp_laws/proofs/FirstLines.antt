@@ -7,7 +7,7 @@ use Rattle.std.proofs.lemmas.List.Sorted.{IsPermutation-refl, IsPermutation-cons
 use Rattle.sqlite_keyed.proofs.ListLemmas.{along_permutation, IsPermutation-same, IsPermutation-filter, filter-map}
 use Rattle.jp_query.specs.Ordering.{Row, Line, outputs_of, same_rows, differs, first_lines, distinct_lines}
 use Rattle.jp_laws.specs.Lines.{is_same, IsSubsequence, none, kept, left_out}
-use Rattle.jp_laws.proofs.DistinctLaws.{not_false}
+use Rattle.std.proofs.lemmas.Bool.{not-false}
 use Rattle.jp_laws.proofs.ValueLaws.{rows_equal, rows_same}
 
 -- ---- a subsequence
@@ -35,7 +35,7 @@ module _ (line : Line) where
   any_at : (x y : Line) (ys : List Line) (d : Bool) → differs x y ≡ d → is_same line x ≡ false → list_any (is_same line) (filter (differs x) ys) ≡ list_any (is_same line) ys → list_any (is_same line) (cond d (y ∷ filter (differs x) ys) (filter (differs x) ys)) ≡ (is_same line y || list_any (is_same line) ys)
   any_at x y ys true e n ih = ap (λ b. is_same line y || b) ih
   any_at x y ys false e n ih =
-      let same : x.outputs ≡ y.outputs = rows_equal x.outputs y.outputs (not_false (same_rows x.outputs y.outputs) e) in
+      let same : x.outputs ≡ y.outputs = rows_equal x.outputs y.outputs (not-false (same_rows x.outputs y.outputs) e) in
       let other : is_same line y ≡ false = ap (λ r. same_rows r line.outputs) (sym same) ∙ n in
       ih ∙ sym (ap (λ b. b || list_any (is_same line) ys) other)
 
@@ -104,7 +104,7 @@ under_head x xs ys h =
 
 never : (a b : Row) → other_than a b ≡ false → other_than b a ≡ true → ⊥
 never a b f e =
-    let same : a ≡ b = rows_equal a b (not_false (same_rows a b) f) in
+    let same : a ≡ b = rows_equal a b (not-false (same_rows a b) f) in
     let contrary : false ≡ true = sym (ap not (rows_same b)) ∙ ap (other_than b) (sym same) ∙ e in
     cc
 
@@ -114,7 +114,7 @@ heads_at x y xs ys true true e f h = subst (λ l. IsPermutation (x.outputs ∷ y
 heads_at x y xs ys true false e f h = absurd (never y.outputs x.outputs f e)
 heads_at x y xs ys false true e f h = absurd (never x.outputs y.outputs e f)
 heads_at x y xs ys false false e f h =
-    let same : x.outputs ≡ y.outputs = rows_equal x.outputs y.outputs (not_false (same_rows x.outputs y.outputs) e) in
+    let same : x.outputs ≡ y.outputs = rows_equal x.outputs y.outputs (not-false (same_rows x.outputs y.outputs) e) in
     IsPermutation-same (x.outputs ∷ map outputs_of xs) (y.outputs ∷ map outputs_of ys) (ap (λ r. r ∷ map outputs_of xs) same ∙ ap (λ rs. y.outputs ∷ rs) h)
 
 heads_turned : (x y : Line) (xs : List Line) → OneBag (x ∷ y ∷ xs) (y ∷ x ∷ xs)

@@ -1,6 +1,6 @@
 -- What a typed tree gathers from all its levels, against its references: each column's relation and each placeholder's
 -- members lie below 64 and are among the references.
-use Rattle.std.proofs.Common.{◌≡◌, ◌∙◌, ap, sym, subst, refl, ℕ, ◌^◌, ◌<◌, Bool, true, false, ◌&&◌, List, [], ◌∷◌, ◌++◌, map, Option, Some, None, is_some, IsSome, nat_lt}
+use Rattle.std.proofs.Common.{◌≡◌, subst, refl, ℕ, ◌^◌, ◌<◌, Bool, true, false, ◌&&◌, List, [], ◌∷◌, ◌++◌, map, Option, Some, None, is_some, IsSome, nat_lt}
 use Rattle.std.specs.Prelude.{bit_or, if◌then◌else◌}
 use Rattle.std.specs.List.{list_all}
 use Rattle.std.proofs.lemmas.Bool.{ltb-true}
@@ -14,10 +14,10 @@ use Rattle.jp_query.specs.declared.JoinTree.{JoinTree}
 use Rattle.jp_query.specs.declared.Order.{Order}
 use Rattle.jp_query.specs.declared.Output.{Output}
 use Rattle.jp_query.specs.declared.Query.{Query}
-use Rattle.jp_query.specs.declared.Expr.TheOpen.{Expr-F, JoinTree-F, Order-F, Output-F, Query-F}
-use Rattle.jp_query.specs.declared.Expr.TheViews.{roll-Expr, roll-JoinTree, roll-Order, roll-Output, roll-Query}
-use Rattle.jp_query.specs.declared.Expr.TheFolds.{fold-Order, fold-Output, map-Expr, map-JoinTree, map-Order, map-Output, map-Query, fold-roll-Expr, fold-roll-JoinTree, fold-roll-Order, fold-roll-Output, fold-roll-Query}
-use Rattle.jp_query.specs.Parts.{ColumnRef, node_column, node_placeholder, columns_in, columns_in_query, placeholders_in_query, all_in, term_part, arm_parts, option_part, parts, sublink_query, trees, conditions, leaf_query, nothing_of_leaf, expr_gives, tree_gives, order_gives, output_gives, query_gives}
+use Rattle.jp_query.specs.declared.Expr.TheOpen.{Expr-F, JoinTree-F, Query-F}
+use Rattle.jp_query.specs.declared.Expr.TheViews.{roll-Expr}
+use Rattle.jp_query.specs.declared.Expr.TheFolds.{fold-Order, fold-Output, map-Expr, map-JoinTree, map-Query, fold-roll-Expr, fold-roll-JoinTree, fold-roll-Order, fold-roll-Output, fold-roll-Query}
+use Rattle.jp_query.specs.Parts.{ColumnRef, node_column, node_placeholder, columns_in, columns_in_query, placeholders_in_query, term_part, arm_parts, option_part, parts, sublink_query, trees, conditions, leaf_query}
 use Rattle.jp_query.specs.Refs.{union, term_refs, arm_refs, maybe_refs, expr_refs, tree_refs, order_refs, output_refs, query_refs, refs_of, refs_of_tree, refs_of_query, refs_of_order, refs_of_output}
 use Rattle.jp_query.specs.Scopes.{arm_result}
 use Rattle.jp_query.specs.Typing.{Typed, TypedOutput, TypedQuery, is_of, typed_if, is_listed, are_all, one_type, can_test, is_one_of, are_whens, arm_when, are_conditions, is_true_test, output_is_typed, expr_type, tree_typed, order_typed, output_typed, query_typed, type_of, tree_is_typed, typed_query}
@@ -25,10 +25,11 @@ use Rattle.jp_query.specs.Layers.{ExprLayer, JoinTreeLayer, QueryLayer}
 use Rattle.jp_induction.specs.HandedDown.{HandsDown}
 use Rattle.jp_induction.proofs.HandedDown as handed
 use Rattle.jp_laws.specs.Referred.{placeholders_in, IsReferred, AreReferred}
-use Rattle.jp_laws.proofs.Agreeing.{first, second, EachWithin, members, has_only}
+use Rattle.jp_laws.proofs.Agreeing.{members, has_only}
+use Rattle.jp_base.proofs.MaskAlgebra.{left_within, right_within, EachWithin}
 use Rattle.jp_laws.proofs.ValueLaws.{and_left, and_right}
 use Rattle.jp_laws.proofs.GatheredParts as gather
-use Rattle.jp_laws.proofs.EachPart.{Each, each_true, each_mapped, each_left, each_right, each_append, each_weaker, each_in_parts, parts_map, sublink_map, trees_map, conditions_map, leaf_map}
+use Rattle.jp_laws.proofs.EachPart.{Each, each_true, each_left, each_right, each_append, each_weaker, parts_map, sublink_map, trees_map, conditions_map, leaf_map}
 
 -- ---- the children of a typed level are typed
 
@@ -170,41 +171,41 @@ maybe_parts set (Some n) w = (w, tt)
 
 arms_inside : (set : ℕ) (arms : List (ℕ × ℕ)) → Each (Inside set) (map arm_refs arms) → Each (Inside set) (arm_parts arms)
 arms_inside set [] h = tt
-arms_inside set (arm ∷ arms) h = (first arm.0 arm.1 set h.0, (second arm.0 arm.1 set h.0, arms_inside set arms h.1))
+arms_inside set (arm ∷ arms) h = (left_within arm.0 arm.1 set h.0, (right_within arm.0 arm.1 set h.0, arms_inside set arms h.1))
 
 pub parts_inside : (x : Expr-F ℕ ℕ ℕ ℕ ℕ) (set : ℕ) → Within (expr_refs x) set → Each (Inside set) (parts x) × Each (Inside set) (option_part (sublink_query x))
 parts_inside (Expr-F.Col rel col t nulled) set w = (tt, tt)
 parts_inside (Expr-F.Lit v t) set w = (tt, tt)
-parts_inside (Expr-F.Place inner rels) set w = ((first inner rels set w, tt), tt)
+parts_inside (Expr-F.Place inner rels) set w = ((left_within inner rels set w, tt), tt)
 parts_inside (Expr-F.Neg operand) set w = ((w, tt), tt)
 parts_inside (Expr-F.Sum terms) set w = (union_parts set (map term_refs terms) w, tt)
 parts_inside (Expr-F.Product factors) set w = (union_parts set factors w, tt)
 parts_inside (Expr-F.Concat pieces) set w = (union_parts set pieces w, tt)
-parts_inside (Expr-F.Compare op left right) set w = ((first left right set w, (second left right set w, tt)), tt)
-parts_inside (Expr-F.Between operand low high) set w = let v = first (bit_or operand low) high set w in ((first operand low set v, (second operand low set v, (second (bit_or operand low) high set w, tt))), tt)
-parts_inside (Expr-F.InList operand list) set w = ((first operand (union list) set w, union_parts set list (second operand (union list) set w)), tt)
+parts_inside (Expr-F.Compare op left right) set w = ((left_within left right set w, (right_within left right set w, tt)), tt)
+parts_inside (Expr-F.Between operand low high) set w = let v = left_within (bit_or operand low) high set w in ((left_within operand low set v, (right_within operand low set v, (right_within (bit_or operand low) high set w, tt))), tt)
+parts_inside (Expr-F.InList operand list) set w = ((left_within operand (union list) set w, union_parts set list (right_within operand (union list) set w)), tt)
 parts_inside (Expr-F.And members) set w = (union_parts set members w, tt)
 parts_inside (Expr-F.Or members) set w = (union_parts set members w, tt)
 parts_inside (Expr-F.Not operand) set w = ((w, tt), tt)
 parts_inside (Expr-F.Test test operand) set w = ((w, tt), tt)
 parts_inside (Expr-F.Coalesce members) set w = (union_parts set members w, tt)
 parts_inside (Expr-F.Case operand arms otherwise) set w =
-    let v = first (bit_or (maybe_refs operand) (union (map arm_refs arms))) (maybe_refs otherwise) set w in (
-      each_append (Inside set) (option_part operand) (arm_parts arms ++ option_part otherwise) (maybe_parts set operand (first (maybe_refs operand) (union (map arm_refs arms)) set v))
-          (each_append (Inside set) (arm_parts arms) (option_part otherwise) (arms_inside set arms (union_parts set (map arm_refs arms) (second (maybe_refs operand) (union (map arm_refs arms)) set v)))
-          (maybe_parts set otherwise (second (bit_or (maybe_refs operand) (union (map arm_refs arms))) (maybe_refs otherwise) set w))),
+    let v = left_within (bit_or (maybe_refs operand) (union (map arm_refs arms))) (maybe_refs otherwise) set w in (
+      each_append (Inside set) (option_part operand) (arm_parts arms ++ option_part otherwise) (maybe_parts set operand (left_within (maybe_refs operand) (union (map arm_refs arms)) set v))
+          (each_append (Inside set) (arm_parts arms) (option_part otherwise) (arms_inside set arms (union_parts set (map arm_refs arms) (right_within (maybe_refs operand) (union (map arm_refs arms)) set v)))
+          (maybe_parts set otherwise (right_within (bit_or (maybe_refs operand) (union (map arm_refs arms))) (maybe_refs otherwise) set w))),
       tt,
     )
 parts_inside (Expr-F.Exists sub query) set w = (tt, (w, tt))
-parts_inside (Expr-F.InSub sub operand query) set w = ((first operand query set w, tt), (second operand query set w, tt))
+parts_inside (Expr-F.InSub sub operand query) set w = ((left_within operand query set w, tt), (right_within operand query set w, tt))
 
 pub trees_inside : (t : JoinTree-F ℕ ℕ ℕ ℕ ℕ) (set : ℕ) → Within (tree_refs t) set → Each (Inside set) (trees t) × Each (Inside set) (conditions t) × Each (Inside set) (option_part (leaf_query t))
 trees_inside (JoinTree-F.Base rel name table) set w = (tt, tt, tt)
 trees_inside (JoinTree-F.Sub rel name query) set w = (tt, tt, (w, tt))
 trees_inside (JoinTree-F.Join kind left right on) set w =
-    let v = first (bit_or left right) (union on) set w in
-    ((first left right set v, (second left right set v, tt)), union_parts set on (second (bit_or left right) (union on) set w), tt)
-trees_inside (JoinTree-F.From trees conds) set w = (union_parts set trees (first (union trees) (union conds) set w), union_parts set conds (second (union trees) (union conds) set w), tt)
+    let v = left_within (bit_or left right) (union on) set w in
+    ((left_within left right set v, (right_within left right set v, tt)), union_parts set on (right_within (bit_or left right) (union on) set w), tt)
+trees_inside (JoinTree-F.From trees conds) set w = (union_parts set trees (left_within (union trees) (union conds) set w), union_parts set conds (right_within (union trees) (union conds) set w), tt)
 
 pub record QueryInside (q : Query-F ℕ ℕ ℕ ℕ ℕ) (set : ℕ) : Type 0 where
   pub columns : Each (Inside set) q.columns
@@ -214,13 +215,13 @@ pub record QueryInside (q : Query-F ℕ ℕ ℕ ℕ ℕ) (set : ℕ) : Type 0 wh
 
 pub query_inside : (q : Query-F ℕ ℕ ℕ ℕ ℕ) (set : ℕ) → Within (query_refs q) set → QueryInside q set
 query_inside q set w =
-    let w3 = first (bit_or (bit_or (union q.columns) q.tree) (union q.conds)) (union q.order) set w in
-    let w2 = first (bit_or (union q.columns) q.tree) (union q.conds) set w3 in
+    let w3 = left_within (bit_or (bit_or (union q.columns) q.tree) (union q.conds)) (union q.order) set w in
+    let w2 = left_within (bit_or (union q.columns) q.tree) (union q.conds) set w3 in
     record {
-      columns = union_parts set q.columns (first (union q.columns) q.tree set w2);
-      tree = second (union q.columns) q.tree set w2;
-      conds = union_parts set q.conds (second (bit_or (union q.columns) q.tree) (union q.conds) set w3);
-      order = union_parts set q.order (second (bit_or (bit_or (union q.columns) q.tree) (union q.conds)) (union q.order) set w);
+      columns = union_parts set q.columns (left_within (union q.columns) q.tree set w2);
+      tree = right_within (union q.columns) q.tree set w2;
+      conds = union_parts set q.conds (right_within (bit_or (union q.columns) q.tree) (union q.conds) set w3);
+      order = union_parts set q.order (right_within (bit_or (bit_or (union q.columns) q.tree) (union q.conds)) (union q.order) set w);
     }
 
 -- ---- the folds, on each type and on a level
@@ -341,7 +342,7 @@ column_node set (Expr-F.Col rel col t nulled) c =
 column_node set x c = tt
 
 place_node : (set : ℕ) (x : ExprLayer) → ExprFine set (roll-Expr x) → Each (AreReferred set) (node_placeholder (gather.node_level ℕ node_placeholder x))
-place_node set (Expr-F.Place inner rels) c = let h = typed_here set (Expr-F.Place inner rels) c in ((ltb-true rels (2 ^ 64) (if_left (nat_lt rels (2 ^ 64)) (type_of inner) h.0), second (refs_of inner) rels set h.1), tt)
+place_node set (Expr-F.Place inner rels) c = let h = typed_here set (Expr-F.Place inner rels) c in ((ltb-true rels (2 ^ 64) (if_left (nat_lt rels (2 ^ 64)) (type_of inner) h.0), right_within (refs_of inner) rels set h.1), tt)
 place_node set x c = tt
 
 pub columns_referred : (x : Expr) → IsSome (type_of x) → Each (IsReferred (refs_of x)) (columns_in x)

@@ -1,8 +1,5 @@
 -- A Right join is the Left join with its sides exchanged.
-use Rattle.std.proofs.Common.{◌≡◌, ◌∙◌, ap, sym, refl, ℕ, List, map}
-use Rattle.std.specs.Prelude.{bit_or}
-use Rattle.jp_base.specs.Sets.{Has}
-use Rattle.jp_base.proofs.SetLemmas.{has_or, same_set}
+use Rattle.std.proofs.Common.{◌≡◌, ◌∙◌, ap, sym, ℕ, List, map}
 use Rattle.jp_query.specs.declared.Expr.{Expr}
 use Rattle.jp_query.specs.declared.Expr.TheOpen.{JoinTree-F}
 use Rattle.jp_query.specs.declared.JoinTree.{JoinTree}
@@ -11,13 +8,7 @@ use Rattle.jp_query.specs.declared.JoinKind.{JoinKind}
 use Rattle.jp_query.specs.declared.JoinKind.TheVariants as join
 use Rattle.jp_query.specs.Meaning.{Row, Env, ValueIn, Tuples, SortKey, RowsIn, in_place, expr_value, tree_tuples, order_key, output_value, query_rows, value_of, tuples_of}
 use Rattle.jp_query.proofs.FoldLaws as laws
-use Rattle.std.proofs.Common.{inl, inr}
-
-pub or_comm : (a b : ℕ) → bit_or a b ≡ bit_or b a
-or_comm a b = same_set (bit_or a b) (bit_or b a) (λ i. (turn a b i, turn b a i))
-  where
-    turn : (x y i : ℕ) → Has (bit_or x y) i → Has (bit_or y x) i
-    turn x y i h = (has_or y x i).1 (elim ((has_or x y i).0 h) [ inl p ↦ inr p | inr q ↦ inl q ])
+use Rattle.std.proofs.lemmas.Nat.{or_comm}
 
 module _ (tables : ℕ → List Row) (left right : JoinTree) (on : List Expr) where
   abbrev level : JoinKind → JoinTree → JoinTree → Tuples

@@ -26,6 +26,7 @@ use Rattle.jp_laws.proofs.ValuesFit.{Fits, IsSound, same}
 
 module _ (schema : Schema) (tests : Tests) (scope : Scope) where
   pub record ExprPasses (x : ExprLevel) : Type 0 where
+    pub bound : tests.bound (judged_bound x scope) ≡ true
     pub columns : Each (λ c. tests.column scope c ≡ true) (node_column x)
     pub parts : Each (λ (p : Judged ℕ). p.passes scope ≡ true) (parts x)
     pub sublinks : Each (λ (q : Judged (List Column)). q.passes scope ≡ true) (option_part (sublink_query x))
@@ -41,6 +42,7 @@ module _ (schema : Schema) (tests : Tests) (scope : Scope) where
       let h2 = and_right columns (places && (inner && subs)) h1 in
       let h3 = and_right places (inner && subs) h2 in
       record {
+        bound = and_left bound (columns && (places && (inner && subs))) h;
         columns = each_true (tests.column scope) (node_column x) (and_left columns (places && (inner && subs)) h1);
         parts = each_true (passes_in scope) (parts x) (and_left inner subs h3);
         sublinks = each_true (passes_in scope) (option_part (sublink_query x)) (and_right inner subs h3);

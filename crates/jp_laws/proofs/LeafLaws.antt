@@ -20,8 +20,7 @@ use Rattle.jp_query.specs.Refs.{only}
 use Rattle.jp_query.specs.OwnLeaves.{tree_own_leaves, own_leaves, leaves_in_tree}
 use Rattle.jp_query.specs.Parts.{all_in, expr_gives, tree_gives, order_gives, output_gives, query_gives, nothing_of_node, leaf_number, leaves_in, tree_rels, rels_of, gathered}
 use Rattle.jp_query.proofs.FoldLaws as laws
-use Rattle.jp_laws.proofs.DistinctLaws.{In, to_in, from_in}
-use Rattle.jp_laws.proofs.MemberLaws.{in_first, in_rest, in_either}
+use Rattle.jp_facts.proofs.Members.{In, to_in, from_in, in_append_left, in_append_right, from_append}
 
 abbrev Good : JoinTree → Type 0
 Good t = ((rel : ℕ) → In rel (own_leaves t) → In rel (leaves_in_tree t)) × ((rel : ℕ) → Has (rels_of t) rel → In rel (own_leaves t))
@@ -42,9 +41,9 @@ trees_of = map (λ (y : T). y.0)
 
 each_leaf : (ys : List T) (rel : ℕ) → In rel (all_in (map own_leaves (trees_of ys))) → In rel (all_in (map leaves_in_tree (trees_of ys)))
 each_leaf [] rel h = h
-each_leaf (y ∷ ys) rel h = elim (in_either rel (own_leaves y.0) (all_in (map own_leaves (trees_of ys))) h) [
-  | inl p ↦ in_first rel (leaves_in_tree y.0) (all_in (map leaves_in_tree (trees_of ys))) (y.1.0 rel p)
-  | inr q ↦ in_rest rel (leaves_in_tree y.0) (all_in (map leaves_in_tree (trees_of ys))) (each_leaf ys rel q)
+each_leaf (y ∷ ys) rel h = elim (from_append rel (own_leaves y.0) (all_in (map own_leaves (trees_of ys))) h) [
+  | inl p ↦ in_append_left rel (leaves_in_tree y.0) (all_in (map leaves_in_tree (trees_of ys))) (y.1.0 rel p)
+  | inr q ↦ in_append_right rel (leaves_in_tree y.0) (all_in (map leaves_in_tree (trees_of ys))) (each_leaf ys rel q)
 ]
 
 abbrev order_leaves : Order → List ℕ
@@ -68,13 +67,13 @@ leaves_at (JoinTree-F.Base r name table) rel (inr h) = absurd h
 leaves_at (JoinTree-F.Sub r name query) rel (inl e) = inl e
 leaves_at (JoinTree-F.Sub r name query) rel (inr h) = absurd h
 leaves_at (JoinTree-F.Join kind left right on) rel h =
-    in_first rel (leaves_in_tree left.0 ++ (leaves_in_tree right.0 ++ [])) (all_in (map (gathered ℕ nothing_of_node leaf_number) (map (λ x. x.0) on)) ++ [])
-    (elim (in_either rel (own_leaves left.0) (own_leaves right.0) h) [
-      | inl p ↦ in_first rel (leaves_in_tree left.0) (leaves_in_tree right.0 ++ []) (left.1.0 rel p)
-      | inr q ↦ in_rest rel (leaves_in_tree left.0) (leaves_in_tree right.0 ++ []) (in_first rel (leaves_in_tree right.0) [] (right.1.0 rel q))
+    in_append_left rel (leaves_in_tree left.0 ++ (leaves_in_tree right.0 ++ [])) (all_in (map (gathered ℕ nothing_of_node leaf_number) (map (λ x. x.0) on)) ++ [])
+    (elim (from_append rel (own_leaves left.0) (own_leaves right.0) h) [
+      | inl p ↦ in_append_left rel (leaves_in_tree left.0) (leaves_in_tree right.0 ++ []) (left.1.0 rel p)
+      | inr q ↦ in_append_right rel (leaves_in_tree left.0) (leaves_in_tree right.0 ++ []) (in_append_left rel (leaves_in_tree right.0) [] (right.1.0 rel q))
     ])
 leaves_at (JoinTree-F.From members conds) rel h =
-    in_first rel (all_in (map leaves_in_tree (trees_of members))) (all_in (map (gathered ℕ nothing_of_node leaf_number) (map (λ x. x.0) conds)) ++ []) (each_leaf members rel h)
+    in_append_left rel (all_in (map leaves_in_tree (trees_of members))) (all_in (map (gathered ℕ nothing_of_node leaf_number) (map (λ x. x.0) conds)) ++ []) (each_leaf members rel h)
 
 -- ---- relations are own leaves
 
@@ -83,8 +82,8 @@ only_that r rel h = elim (cases_eq rel r) [ inl e ↦ sym e | inr n ↦ absurd (
 
 either_side : (left right : T) (rel : ℕ) → Has (bit_or (rels_of left.0) (rels_of right.0)) rel → In rel (own_leaves left.0 ++ own_leaves right.0)
 either_side left right rel h = elim ((has_or (rels_of left.0) (rels_of right.0) rel).0 h) [
-  | inl p ↦ in_first rel (own_leaves left.0) (own_leaves right.0) (left.1.1 rel p)
-  | inr q ↦ in_rest rel (own_leaves left.0) (own_leaves right.0) (right.1.1 rel q)
+  | inl p ↦ in_append_left rel (own_leaves left.0) (own_leaves right.0) (left.1.1 rel p)
+  | inr q ↦ in_append_right rel (own_leaves left.0) (own_leaves right.0) (right.1.1 rel q)
 ]
 
 join_side : (kind : JoinKind) (left right : T) (rel : ℕ) → Has (join_rels kind (rels_of left.0) (rels_of right.0)) rel → In rel (own_leaves left.0 ++ own_leaves right.0)
@@ -92,14 +91,14 @@ join_side join.Inner left right = either_side left right
 join_side join.Left left right = either_side left right
 join_side join.Right left right = either_side left right
 join_side join.Full left right = either_side left right
-join_side join.Semi left right = λ rel h. in_first rel (own_leaves left.0) (own_leaves right.0) (left.1.1 rel h)
-join_side join.Anti left right = λ rel h. in_first rel (own_leaves left.0) (own_leaves right.0) (left.1.1 rel h)
+join_side join.Semi left right = λ rel h. in_append_left rel (own_leaves left.0) (own_leaves right.0) (left.1.1 rel h)
+join_side join.Anti left right = λ rel h. in_append_left rel (own_leaves left.0) (own_leaves right.0) (left.1.1 rel h)
 
 some_member : (n : ℕ) (ys : List T) (rel : ℕ) → Has (fold bit_or n (map rels_of (trees_of ys))) rel → Has n rel ⊎ In rel (all_in (map own_leaves (trees_of ys)))
 some_member n [] rel h = inl h
 some_member n (y ∷ ys) rel h = elim (some_member (bit_or n (rels_of y.0)) ys rel h) [
-  | inl p ↦ elim ((has_or n (rels_of y.0) rel).0 p) [ inl q ↦ inl q | inr r ↦ inr (in_first rel (own_leaves y.0) (all_in (map own_leaves (trees_of ys))) (y.1.1 rel r)) ]
-  | inr q ↦ inr (in_rest rel (own_leaves y.0) (all_in (map own_leaves (trees_of ys))) q)
+  | inl p ↦ elim ((has_or n (rels_of y.0) rel).0 p) [ inl q ↦ inl q | inr r ↦ inr (in_append_left rel (own_leaves y.0) (all_in (map own_leaves (trees_of ys))) (y.1.1 rel r)) ]
+  | inr q ↦ inr (in_append_right rel (own_leaves y.0) (all_in (map own_leaves (trees_of ys))) q)
 ]
 
 none_in_zero : (rel : ℕ) → Has 0 rel → ⊥
@@ -142,7 +141,7 @@ own_in_query query rel h =
     let tree = (out-Query query).tree in
     let rest = all_in (map (gathered ℕ nothing_of_node leaf_number) (out-Query query).conds) ++ all_in (map order_leaves (out-Query query).order) in
     let outputs = all_in (map output_leaves (out-Query query).columns) in
-    let there : In rel (outputs ++ (leaves_in_tree tree ++ rest)) = in_rest rel outputs (leaves_in_tree tree ++ rest) (in_first rel (leaves_in_tree tree) rest ((good tree).0 rel (to_in rel (own_leaves tree) h))) in
+    let there : In rel (outputs ++ (leaves_in_tree tree ++ rest)) = in_append_right rel outputs (leaves_in_tree tree ++ rest) (in_append_left rel (leaves_in_tree tree) rest ((good tree).0 rel (to_in rel (own_leaves tree) h))) in
     from_in rel (leaves_in query) (subst (λ ls. In rel ls) (sym (laws.at-Query (List ℕ) (List ℕ) (List ℕ) (List ℕ) (List ℕ) (expr_gives ℕ nothing_of_node leaf_number) (tree_gives ℕ nothing_of_node leaf_number) (order_gives ℕ nothing_of_node leaf_number) (output_gives ℕ nothing_of_node leaf_number) (query_gives ℕ nothing_of_node leaf_number) query)) there)
 
 pub rels_are_own : (tree : JoinTree) (rel : ℕ) → Has (rels_of tree) rel → Contains (own_leaves tree) rel

@@ -22,7 +22,6 @@ pub mod LabelUses
 pub mod LeafLaws
 pub mod LentLaws
 pub mod LevelLaws
-pub mod MemberLaws
 pub mod MentionLaws
 pub mod OrderedRows
 pub mod OuterLaws

@@ -6,7 +6,7 @@ use Rattle.std.proofs.lemmas.Bool.{eqb-true}
 use Rattle.std.proofs.lemmas.Map.Views.{any-filter_same}
 use Rattle.jp_query.specs.Conditions.{are_distinct}
 use Rattle.jp_query.specs.Mentions.{is_other, first_of_each}
-use Rattle.jp_laws.proofs.DistinctLaws.{In, to_in, from_in}
+use Rattle.jp_facts.proofs.Members.{In, to_in, from_in}
 use Rattle.jp_laws.proofs.ValueLaws.{and_left, and_right}
 
 false_true : false ≡ true → ⊥

@@ -9,7 +9,7 @@ use Rattle.jp_query.specs.InOrder.{IsInOrder, StandFor, output_of, key_of, lines
 use Rattle.jp_query.specs.Meaning.{Env, ValueIn, Tuples, SortKey, RowsIn, in_place, expr_value, tree_tuples, order_key, output_value, query_rows, direction, value_of, tuples_of, meaning}
 use Rattle.jp_query.specs.Ordering.{Row, Line, Direction, outputs_of, differs, first_lines, distinct_lines, sorted}
 use Rattle.jp_query.proofs.FoldLaws as laws
-use Rattle.jp_laws.proofs.DistinctLaws.{In, to_in, from_in, filtered}
+use Rattle.jp_facts.proofs.Members.{In, to_in, from_in, from_filter}
 use Rattle.jp_laws.proofs.SortLaws.{permutes, in_order}
 
 maps_same : {X Y : Type 0} (f g : X → Y) → ((x : X) → f x ≡ g x) → (xs : List X) → map f xs ≡ map g xs
@@ -19,7 +19,7 @@ maps_same f g e (x ∷ xs) = ap (λ y. y ∷ map f xs) (e x) ∙ ap (λ ys. g x 
 in_first : (lines : List Line) (line : Line) → In line (first_lines lines) → In line lines
 in_first [] line h = absurd h
 in_first (x ∷ xs) line (inl q) = inl q
-in_first (x ∷ xs) line (inr r) = inr (in_first xs line (filtered (differs x) line (first_lines xs) r).1)
+in_first (x ∷ xs) line (inr r) = inr (in_first xs line (from_filter (differs x) line (first_lines xs) r).1)
 
 pub firsts_stand : (distinct : Bool) (all : List Line) → StandFor distinct all (distinct_lines distinct all)
 firsts_stand false all = IsPermutation-refl all

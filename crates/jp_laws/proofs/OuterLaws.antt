@@ -17,7 +17,7 @@ use Rattle.jp_query.specs.Parts.{all_in, option_part, parts, sublink_query, tree
 use Rattle.jp_query.specs.Scopes.{Column, Schema, Entry, Scope, BoundIn, EntriesIn, ColumnIn, ColumnsIn, visible_columns, expr_bound, tree_entries, order_bound, output_column, query_columns, bound_of, entries_of, columns_of_query}
 use Rattle.jp_query.specs.Conditions.{Judged, relation_of, are_distinct, all_entries, expr_judged, tree_judged, order_judged, output_judged, query_judged, judged_expr, tells_relations_apart, judged_tree, judged_query}
 use Rattle.jp_query.specs.Fitting.{IsCellOfSome, IsCellAt, is_entry}
-use Rattle.jp_laws.proofs.Agreeing.{not_eq}
+use Rattle.std.proofs.lemmas.Bool.{ne_eqb}
 use Rattle.jp_laws.proofs.ValueLaws.{and_left}
 use Rattle.jp_laws.proofs.EachPart.{Each, each_append, each_weaker, each_in_parts, parts_map, sublink_map, trees_map, conditions_map, leaf_map}
 use Rattle.jp_laws.proofs.JudgedLaws.{expr_passes, TreePasses, tree_passed, QueryPasses, query_passed, judged_order_by, judged_output_by}
@@ -259,7 +259,7 @@ no_columns : (outer : Scope) (rel : ℕ) → NotIn outer rel → visible_columns
 no_columns [] rel out = refl
 no_columns (e ∷ outer) rel out = elim (cases_eq e.relation rel) [
   | inl same ↦ absurd (out (first_in same))
-  | inr other ↦ ap (λ b. if b then e.columns else visible_columns outer rel) (not_eq e.relation rel other) ∙ no_columns outer rel (λ p. out (in_right (e ∷ []) outer rel p))
+  | inr other ↦ ap (λ b. if b then e.columns else visible_columns outer rel) (ne_eqb e.relation rel other) ∙ no_columns outer rel (λ p. out (in_right (e ∷ []) outer rel p))
 ]
   where
     first_in : e.relation ≡ rel → InEntries (e ∷ outer) rel
@@ -275,7 +275,7 @@ among_leaves outer rel [] h any = absurd (false_true any)
     false_true e = cc
 among_leaves outer rel (n ∷ leaves) h any = elim (cases_eq rel n) [
   | inl same ↦ subst (NotIn outer) (sym same) h.0
-  | inr other ↦ among_leaves outer rel leaves h.1 (subst (λ b. (b || list_any (◌==◌ rel) leaves) ≡ true) (not_eq rel n other) any)
+  | inr other ↦ among_leaves outer rel leaves h.1 (subst (λ b. (b || list_any (◌==◌ rel) leaves) ≡ true) (ne_eqb rel n other) any)
 ]
 
 outside_cell : (outer : Scope) (env : Env) (leaves : List ℕ) → Each (NotIn outer) leaves → (c : ColumnRef) (cs : List ColumnRef) (b : Bool) → list_any (◌==◌ c.relation) leaves ≡ b → Each (IsCellAt outer env) (cond (not b) (c ∷ filter (is_outside leaves) cs) (filter (is_outside leaves) cs)) → IsCellAt outer env c × Each (IsCellAt outer env) (filter (is_outside leaves) cs)

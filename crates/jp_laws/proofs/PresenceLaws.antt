@@ -29,9 +29,8 @@ use Rattle.jp_induction.proofs.Induction.{tree_alone}
 use Rattle.jp_induction.proofs.Meanings.{tree_level, at_tree}
 use Rattle.jp_induction.proofs.Rewriting.{fused_tree}
 use Rattle.jp_laws.specs.Rooted.{Rooting, rels_of_rooting, has_root, both_rooted, sides_rooted, tree_rooting, rooting_of, is_rooted}
-use Rattle.jp_laws.proofs.Agreeing.{not_eq}
-use Rattle.jp_laws.proofs.DistinctLaws.{In, to_in, filtered}
-use Rattle.jp_laws.proofs.MemberLaws.{in_either}
+use Rattle.std.proofs.lemmas.Bool.{ne_eqb}
+use Rattle.jp_facts.proofs.Members.{In, to_in, from_filter, from_append}
 use Rattle.jp_laws.proofs.ValueLaws.{and_left, and_right}
 
 -- ---- members of lists
@@ -44,7 +43,7 @@ module _ (S : Env → Type 0) where
 
   from_flat : (f : Env → List Env) (xs : List Env) → ((u : Env) → In u xs → (m : Env) → In m (f u) → S m) → (m : Env) → In m (flat_map f xs) → S m
   from_flat f [] each m h = absurd h
-  from_flat f (x ∷ xs) each m h = elim (in_either m (f x) (flat_map f xs) h) [
+  from_flat f (x ∷ xs) each m h = elim (from_append m (f x) (flat_map f xs) h) [
     | inl p ↦ each x (inl refl) m p
     | inr q ↦ from_flat f xs (λ u g. each u (inr g)) m q
   ]
@@ -74,20 +73,20 @@ abbrev Apart : ℕ → ℕ → Type 0
 Apart l r = (i : ℕ) → Has l i → Has r i → ⊥
 
 shown_without : (l r : ℕ) → Apart l r → (x : Env) → Shown l x → Shown (bit_or l r) (without r x)
-shown_without l r apart x s = (s.0, (has_or l r s.0).1 (inl s.1), s.2, ap (λ b. if b then None else x s.0) (not_eq (bit_at r s.0) 1 (apart s.0 s.1)) ∙ s.3)
+shown_without l r apart x s = (s.0, (has_or l r s.0).1 (inl s.1), s.2, ap (λ b. if b then None else x s.0) (ne_eqb (bit_at r s.0) 1 (apart s.0 s.1)) ∙ s.3)
 
 module _ (on : List ValueIn) where
   pairs_shown : (l r : ℕ) (rights : List Env) → AllShown r rights → (x : Env) → AllShown (bit_or l r) (pairs on r rights x)
-  pairs_shown l r rights each x m h = from_map (Shown (bit_or l r)) (with_rows r x) rights (λ u g. shown_rows l r x u (each u g)) m (filtered (holds on) m (map (with_rows r x) rights) h).1
+  pairs_shown l r rights each x m h = from_map (Shown (bit_or l r)) (with_rows r x) rights (λ u g. shown_rows l r x u (each u g)) m (from_filter (holds on) m (map (with_rows r x) rights) h).1
 
   left_shown : (l r : ℕ) → Apart l r → (lefts rights : List Env) → AllShown l lefts → AllShown r rights → AllShown (bit_or l r) (left_join on r lefts rights)
   left_shown l r apart lefts rights a b = from_flat (Shown (bit_or l r)) (pairs_or_alone on r rights) lefts
       (λ x g. from_else (Shown (bit_or l r)) (without r x) (pairs on r rights x) (shown_without l r apart x (a x g)) (pairs_shown l r rights b x))
 
   full_shown : (l r : ℕ) → Apart l r → (lefts rights : List Env) → AllShown l lefts → AllShown r rights → AllShown (bit_or l r) (join_tuples join.Full on l lefts r rights)
-  full_shown l r apart lefts rights a b m h = elim (in_either m (left_join on r lefts rights) (map (without l) (filter (is_unmatched on r lefts) rights)) h) [
+  full_shown l r apart lefts rights a b m h = elim (from_append m (left_join on r lefts rights) (map (without l) (filter (is_unmatched on r lefts) rights)) h) [
     | inl p ↦ left_shown l r apart lefts rights a b m p
-    | inr q ↦ subst (λ n. Shown n m) (or_comm r l) (from_map (Shown (bit_or r l)) (without l) (filter (is_unmatched on r lefts) rights) (λ u g. shown_without r l (λ i p q. apart i q p) u (b u (filtered (is_unmatched on r lefts) u rights g).1)) m q)
+    | inr q ↦ subst (λ n. Shown n m) (or_comm r l) (from_map (Shown (bit_or r l)) (without l) (filter (is_unmatched on r lefts) rights) (λ u g. shown_without r l (λ i p q. apart i q p) u (b u (from_filter (is_unmatched on r lefts) u rights g).1)) m q)
   ]
 
 -- ---- trees
@@ -111,8 +110,8 @@ join_good join.Inner on left right a b g k h env = from_flat (Shown (bit_or left
 join_good join.Left on left right a b g k h env = left_shown on left.rels right.rels (both_apart left right a b g.0 k.0 h) (left.tuples env) (right.tuples env) (g.1 (first_rooted a b h) env) (k.1 (second_rooted a b h) env)
 join_good join.Right on left right a b g k h env = λ m p. subst (λ n. Shown n m) (or_comm right.rels left.rels) (left_shown on right.rels left.rels (λ i q r. both_apart left right a b g.0 k.0 h i r q) (right.tuples env) (left.tuples env) (k.1 (second_rooted a b h) env) (g.1 (first_rooted a b h) env) m p)
 join_good join.Full on left right a b g k h env = full_shown on left.rels right.rels (both_apart left right a b g.0 k.0 h) (left.tuples env) (right.tuples env) (g.1 (first_rooted a b h) env) (k.1 (second_rooted a b h) env)
-join_good join.Semi on left right a b g k h env = λ m p. g.1 h env m (filtered (has_match on right.rels (right.tuples env)) m (left.tuples env) p).1
-join_good join.Anti on left right a b g k h env = λ m p. g.1 h env m (filtered (has_no_match on right.rels (right.tuples env)) m (left.tuples env) p).1
+join_good join.Semi on left right a b g k h env = λ m p. g.1 h env m (from_filter (has_match on right.rels (right.tuples env)) m (left.tuples env) p).1
+join_good join.Anti on left right a b g k h env = λ m p. g.1 h env m (from_filter (has_no_match on right.rels (right.tuples env)) m (left.tuples env) p).1
 
 abbrev EachShown : List Tuples → Type 0
 EachShown [] = Unit {0}
@@ -165,7 +164,7 @@ module _ (tables : ℕ → List Row) where
   level (JoinTree-F.Join kind left right on) g h env = join_good kind (map (value_of tables) on) (tuples_of tables left) (tuples_of tables right) (rooting_of left) (rooting_of right) (good_side left g.0) (good_side right g.1.0) h env
   level (JoinTree-F.From members conds) g h env = λ m p.
       let both = and_parts (is_listed (map rooting_of members)) (list_all has_root (map rooting_of members)) h in
-      combined_shown env (map (tuples_of tables) members) (listed_same members both.0) (shown_each members g both.1) m (filtered (holds (map (value_of tables) conds)) m (combined (map (tuples_of tables) members) env) p).1
+      combined_shown env (map (tuples_of tables) members) (listed_same members both.0) (shown_each members g both.1) m (from_filter (holds (map (value_of tables) conds)) m (combined (map (tuples_of tables) members) env) p).1
 
   good : (t : JoinTree) → Holds t
   good = tree_alone Holds (λ x g h. subst (λ (t : Tuples). (env : Env) → AllShown t.rels (t.tuples env)) (sym (at_tree tables x))

@@ -30,13 +30,12 @@ use Rattle.jp_induction.proofs.Induction.{tree_alone}
 use Rattle.jp_induction.specs.HandedDown.{HandsDown}
 use Rattle.jp_laws.specs.Rooted.{Rooting, has_root, both_rooted, sides_rooted, tree_rooting, rooting_of, is_rooted}
 use Rattle.jp_laws.specs.TreesInside.{Trees, trees_beside, whole_tree, expr_trees, tree_trees, order_trees, output_trees, query_trees, trees_inside}
-use Rattle.jp_laws.proofs.DistinctLaws.{In, to_in, from_in}
+use Rattle.jp_facts.proofs.Members.{In, to_in, from_in, in_append_left, in_append_right}
 use Rattle.jp_laws.proofs.GatheredLaws.{IsTypedInner, IsTrueTree, IsTypedColumn, parts_typed, trees_typed, query_parts, typed_order, typed_output, of_is_some}
 use Rattle.jp_laws.proofs.JudgedLaws.{expr_passes, tree_passed, query_passed, judged_order_by, judged_output_by}
 use Rattle.jp_laws.proofs.JudgedValues.{entries_judged}
 use Rattle.jp_laws.proofs.TuplesFit.{InEntries, in_left, in_right, apart_from, distinct_start}
 use Rattle.jp_laws.proofs.PresenceLaws.{rooting_rels, some_present}
-use Rattle.jp_laws.proofs.MemberLaws.{in_first, in_rest}
 
 -- ---- the numbers of a tree
 
@@ -464,8 +463,8 @@ itself_inside = tree_alone (λ t. In t (trees_of_tree t)) (λ x h. subst (In (ro
 own_inside_level : (x : QueryLayer) → In x.tree (trees_inside (roll-Query x))
 own_inside_level x = let y = query_pairs x in
     subst (In x.tree) (sym (para-roll-Query Trees Trees Trees Trees Trees expr_trees tree_trees order_trees output_trees query_trees x))
-    (in_rest x.tree (all_in (map trees_beside y.columns)) (trees_of_tree x.tree ++ (all_in (map trees_beside y.conds) ++ all_in (map trees_beside y.order)))
-    (in_first x.tree (trees_of_tree x.tree) (all_in (map trees_beside y.conds) ++ all_in (map trees_beside y.order)) (itself_inside x.tree)))
+    (in_append_right x.tree (all_in (map trees_beside y.columns)) (trees_of_tree x.tree ++ (all_in (map trees_beside y.conds) ++ all_in (map trees_beside y.order)))
+    (in_append_left x.tree (trees_of_tree x.tree) (all_in (map trees_beside y.conds) ++ all_in (map trees_beside y.order)) (itself_inside x.tree)))
 
 pub own_inside : (query : Query) → Contains (trees_inside query) (out-Query query).tree
 own_inside query = from_in (out-Query query).tree (trees_inside query) (subst (λ q. In (out-Query query).tree (trees_inside q)) (roll-out-Query query) (own_inside_level (out-Query query)))

@@ -1,47 +1,31 @@
 -- What Left, Semi and Anti joins do with the left tuples.
-use Rattle.std.proofs.Common.{◌≡◌, ◌∙◌, ap, sym, subst, refl, ℕ, ◌⊎◌, inl, inr, Bool, true, false, cond, not, List, [], ◌∷◌, ◌++◌, map, filter, None}
-use Rattle.std.specs.Prelude.{Contains, ◌==◌, if◌then◌else◌}
+use Rattle.std.proofs.Common.{◌≡◌, ◌∙◌, ap, sym, subst, refl, ℕ, inl, inr, Bool, true, false, cond, not, List, [], ◌∷◌, ◌++◌, map, filter, None}
+use Rattle.std.specs.Prelude.{Contains, if◌then◌else◌}
 use Rattle.std.specs.Int.{bit_at}
-use Rattle.std.specs.List.{flat_map}
 use Rattle.std.specs.List.Sorted.{IsPermutation}
 use Rattle.std.proofs.lemmas.List.Sorted.{IsPermutation-refl, IsPermutation-cons, IsPermutation-sym, IsPermutation-trans, IsPermutation-middle}
 use Rattle.jp_base.specs.Sets.{Has}
 use Rattle.jp_query.specs.declared.Expr.{Expr}
-use Rattle.jp_query.specs.declared.Expr.TheOpen.{JoinTree-F}
 use Rattle.jp_query.specs.declared.JoinTree.{JoinTree}
 use Rattle.jp_query.specs.declared.JoinTree.TheVariants as tree
 use Rattle.jp_query.specs.declared.JoinKind.{JoinKind}
 use Rattle.jp_query.specs.declared.JoinKind.TheVariants as join
-use Rattle.jp_query.specs.Meaning.{Row, Env, ValueIn, Tuples, SortKey, RowsIn, has, holds, with_rows, without, or_else, pairs, pairs_or_alone, has_match, has_no_match, left_join, join_tuples, in_place, expr_value, tree_tuples, order_key, output_value, query_rows, value_of, tuples_of}
+use Rattle.jp_query.specs.Meaning.{Row, Env, ValueIn, Tuples, SortKey, RowsIn, holds, with_rows, without, or_else, pairs, pairs_or_alone, has_match, left_join, join_tuples, in_place, expr_value, tree_tuples, order_key, output_value, query_rows, value_of, tuples_of}
 use Rattle.jp_query.proofs.FoldLaws as laws
-use Rattle.jp_laws.proofs.Agreeing.{not_eq}
-use Rattle.jp_laws.proofs.DistinctLaws.{In, to_in, from_in, filtered}
+use Rattle.std.proofs.lemmas.Bool.{ne_eqb}
+use Rattle.jp_facts.proofs.Members.{In, to_in, from_in, from_filter, in_flat_map}
 
 -- ---- a Left join
-
-in_left : {X : Type 0} (x : X) (xs ys : List X) → In x xs → In x (xs ++ ys)
-in_left x [] ys h = absurd h
-in_left x (y ∷ xs) ys (inl e) = inl e
-in_left x (y ∷ xs) ys (inr r) = inr (in_left x xs ys r)
-
-in_right : {X : Type 0} (x : X) (xs ys : List X) → In x ys → In x (xs ++ ys)
-in_right x [] ys h = h
-in_right x (y ∷ xs) ys h = inr (in_right x xs ys h)
-
-in_flat : (f : Env → List Env) (x m : Env) (xs : List Env) → In x xs → In m (f x) → In m (flat_map f xs)
-in_flat f x m [] h g = absurd h
-in_flat f x m (y ∷ xs) (inl e) g = in_left m (f y) (flat_map f xs) (subst (λ z. In m (f z)) (sym e) g)
-in_flat f x m (y ∷ xs) (inr r) g = in_right m (f y) (flat_map f xs) (in_flat f x m xs r g)
 
 module _ (on : List ValueIn) (r : ℕ) where
   abbrev Elsewhere : Env → Env → Type 0
   Elsewhere joined tuple = (i : ℕ) → (Has r i → ⊥) → joined i ≡ tuple i
 
   rows_elsewhere : (x u : Env) → Elsewhere (with_rows r x u) x
-  rows_elsewhere x u i n = ap (λ b. if b then u i else x i) (not_eq (bit_at r i) 1 n)
+  rows_elsewhere x u i n = ap (λ b. if b then u i else x i) (ne_eqb (bit_at r i) 1 n)
 
   without_elsewhere : (x : Env) → Elsewhere (without r x) x
-  without_elsewhere x i n = ap (λ b. if b then None else x i) (not_eq (bit_at r i) 1 n)
+  without_elsewhere x i n = ap (λ b. if b then None else x i) (ne_eqb (bit_at r i) 1 n)
 
   mapped : (x m : Env) (rights : List Env) → In m (map (with_rows r x) rights) → Elsewhere m x
   mapped x m [] h = absurd h
@@ -54,8 +38,8 @@ module _ (on : List ValueIn) (r : ℕ) where
 
   kept_left : (lefts rights : List Env) (x : Env) → Contains lefts x → (m : Env) × Contains (left_join on r lefts rights) m × Elsewhere m x
   kept_left lefts rights x h =
-      let c = chosen x (pairs on r rights x) (λ m g. mapped x m rights (filtered (holds on) m (map (with_rows r x) rights) g).1) in
-      (c.0, from_in c.0 (left_join on r lefts rights) (in_flat (pairs_or_alone on r rights) x c.0 lefts (to_in x lefts h) c.1), c.2)
+      let c = chosen x (pairs on r rights x) (λ m g. mapped x m rights (from_filter (holds on) m (map (with_rows r x) rights) g).1) in
+      (c.0, from_in c.0 (left_join on r lefts rights) (in_flat_map (pairs_or_alone on r rights) x c.0 lefts (to_in x lefts h) c.1), c.2)
 
 -- ---- Semi and Anti joins
 

@@ -13,11 +13,10 @@ use Rattle.jp_query.specs.Parts.{all_in, parts, sublink_query, option_part}
 use Rattle.jp_query.specs.Equality.{same_expr}
 use Rattle.jp_query.specs.Freshness.{Sublink, Found, found_in, sublink_here, expr_found, tree_found, order_found, output_found, query_found, sublinks_in, IsFresh}
 use Rattle.jp_query.specs.Subexpressions.{Exprs, exprs_beside, expr_exprs, tree_exprs, order_exprs, output_exprs, query_exprs, expressions_in, sublinks_of}
-use Rattle.jp_laws.proofs.DistinctLaws.{In, to_in, from_in}
+use Rattle.jp_facts.proofs.Members.{In, to_in, from_in, in_append_left, in_append_right, from_append}
 use Rattle.jp_laws.proofs.EachPart.{parts_map, sublink_map}
 use Rattle.jp_laws.proofs.EqualityLaws.{same_are_equal}
 use Rattle.jp_laws.proofs.LevelLaws.{values_go}
-use Rattle.jp_laws.proofs.MemberLaws.{in_first, in_rest, in_either}
 use Rattle.jp_laws.proofs.SameItself.{same_as_itself}
 
 -- each expression in the one list has its sublinks in the other
@@ -25,7 +24,7 @@ abbrev Kept : Exprs → Found → Type 0
 Kept exprs found = (e : Expr) (s : Sublink) → In e exprs → In s (sublinks_of e) → In s found
 
 kept_both : (xs ys : Exprs) (fs gs : Found) → Kept xs fs → Kept ys gs → Kept (xs ++ ys) (fs ++ gs)
-kept_both xs ys fs gs k l e s h m = elim (in_either e xs ys h) [ inl p ↦ in_first s fs gs (k e s p m) | inr q ↦ in_rest s fs gs (l e s q m) ]
+kept_both xs ys fs gs k l e s h m = elim (from_append e xs ys h) [ inl p ↦ in_append_left s fs gs (k e s p m) | inr q ↦ in_append_right s fs gs (l e s q m) ]
 
 -- of parts, each with its expressions and its sublinks
 module _ (X : Type 0) (exprs : X → Exprs) (found : X → Found) where
@@ -147,7 +146,7 @@ expr_kept y e s h m =
     let there : In e (expr_exprs (with_exprs (bare_expr y))) = subst (λ es. In e es) exprs_at h in
     elim there [
       | inl q ↦ subst (λ x. In s (sublinks_of x)) (sym (sym (ap roll-Expr (values_go Exprs Exprs Exprs Exprs Exprs exprs_of exprs_of_tree exprs_of_order exprs_of_output expressions_in (bare_expr y))) ∙ q)) m
-      | inr r ↦ subst (λ fs. In s fs) (sym found_at) (in_rest s (sublink_here (with_found (bare_expr y))) (all_in (map found_in (parts (with_found (bare_expr y)))) ++ all_in (map found_in (option_part (sublink_query (with_found (bare_expr y)))))) (inside_kept y e s r m))
+      | inr r ↦ subst (λ fs. In s fs) (sym found_at) (in_append_right s (sublink_here (with_found (bare_expr y))) (all_in (map found_in (parts (with_found (bare_expr y)))) ++ all_in (map found_in (option_part (sublink_query (with_found (bare_expr y)))))) (inside_kept y e s r m))
     ]
 
 -- ---- trees, ORDER BY items, outputs, queries
@@ -242,8 +241,8 @@ of_order x = subst (λ es. In (out-Order x).expr es)
 
 in_all : (X : Type 0) (exprs : X → Exprs) (found : X → Found) (x : X) (xs : List X) (e : Expr) → In x xs → In e (exprs x) → In e (exprs_of_all X exprs found xs)
 in_all X exprs found x [] e h k = absurd h
-in_all X exprs found x (y ∷ ys) e (inl q) k = in_first e (exprs y) (exprs_of_all X exprs found ys) (subst (λ z. In e (exprs z)) (sym q) k)
-in_all X exprs found x (y ∷ ys) e (inr r) k = in_rest e (exprs y) (exprs_of_all X exprs found ys) (in_all X exprs found x ys e r k)
+in_all X exprs found x (y ∷ ys) e (inl q) k = in_append_left e (exprs y) (exprs_of_all X exprs found ys) (subst (λ z. In e (exprs z)) (sym q) k)
+in_all X exprs found x (y ∷ ys) e (inr r) k = in_append_right e (exprs y) (exprs_of_all X exprs found ys) (in_all X exprs found x ys e r k)
 
 abbrev outputs_in : Query → Exprs
 outputs_in query = exprs_of_all Output exprs_of_output found_of_output (out-Query query).columns
@@ -261,14 +260,14 @@ pub output_stands : (query : Query) (output : Output) → Contains (out-Query qu
 output_stands query output h =
     let e = (out-Output output).expr in
     let rest = exprs_of_tree (out-Query query).tree ++ (conditions_in query ++ orders_in query) in
-    from_in e (expressions_in query) (subst (λ es. In e es) (sym (by_fields query)) (in_first e (outputs_in query) rest
+    from_in e (expressions_in query) (subst (λ es. In e es) (sym (by_fields query)) (in_append_left e (outputs_in query) rest
     (in_all Output exprs_of_output found_of_output output (out-Query query).columns e (to_in output (out-Query query).columns h) (of_output output))))
 
 pub condition_stands : (query : Query) (cond : Expr) → Contains (out-Query query).conds cond → Contains (expressions_in query) cond
 condition_stands query cond h =
     let tree = exprs_of_tree (out-Query query).tree in
     let rest = conditions_in query ++ orders_in query in
-    from_in cond (expressions_in query) (subst (λ es. In cond es) (sym (by_fields query)) (in_rest cond (outputs_in query) (tree ++ rest) (in_rest cond tree rest (in_first cond (conditions_in query) (orders_in query)
+    from_in cond (expressions_in query) (subst (λ es. In cond es) (sym (by_fields query)) (in_append_right cond (outputs_in query) (tree ++ rest) (in_append_right cond tree rest (in_append_left cond (conditions_in query) (orders_in query)
     (in_all Expr exprs_of sublinks_of cond (out-Query query).conds cond (to_in cond (out-Query query).conds h) (itself cond))))))
 
 pub order_stands : (query : Query) (order : Order) → Contains (out-Query query).order order → Contains (expressions_in query) (out-Order order).expr
@@ -276,5 +275,5 @@ order_stands query order h =
     let e = (out-Order order).expr in
     let tree = exprs_of_tree (out-Query query).tree in
     let rest = conditions_in query ++ orders_in query in
-    from_in e (expressions_in query) (subst (λ es. In e es) (sym (by_fields query)) (in_rest e (outputs_in query) (tree ++ rest) (in_rest e tree rest (in_rest e (conditions_in query) (orders_in query)
+    from_in e (expressions_in query) (subst (λ es. In e es) (sym (by_fields query)) (in_append_right e (outputs_in query) (tree ++ rest) (in_append_right e tree rest (in_append_right e (conditions_in query) (orders_in query)
     (in_all Order exprs_of_order found_of_order order (out-Query query).order e (to_in order (out-Query query).order h) (of_order order))))))

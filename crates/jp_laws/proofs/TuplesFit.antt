@@ -20,7 +20,7 @@ use Rattle.jp_query.specs.Scopes.{Column, Entry, Scope, EntriesIn, visible_colum
 use Rattle.jp_query.specs.Tables.{IsRowOf}
 use Rattle.jp_query.specs.Conditions.{relation_of, are_distinct}
 use Rattle.jp_query.specs.Fitting.{IsCellOfSome, IsCellAt, IsRowFor, IsEntryOf, is_entry}
-use Rattle.jp_laws.proofs.Agreeing.{not_eq}
+use Rattle.std.proofs.lemmas.Bool.{ne_eqb}
 use Rattle.jp_laws.proofs.ValueLaws.{and_left, and_right}
 use Rattle.jp_laws.proofs.EachPart.{Each, each_left, each_right, each_append, each_weaker}
 
@@ -152,16 +152,16 @@ there : (rels n : ℕ) (x u : Env) → Has rels n → with_rows rels x u n ≡ u
 there rels n x u h = ap (λ b. if b then u n else x n) (eq-eqb (bit_at rels n) 1 h)
 
 elsewhere : (rels n : ℕ) (x u : Env) → (Has rels n → ⊥) → with_rows rels x u n ≡ x n
-elsewhere rels n x u h = ap (λ b. if b then u n else x n) (not_eq (bit_at rels n) 1 h)
+elsewhere rels n x u h = ap (λ b. if b then u n else x n) (ne_eqb (bit_at rels n) 1 h)
 
 gone : (rels n : ℕ) (x : Env) → Has rels n → without rels x n ≡ None
 gone rels n x h = ap (λ b. if b then None else x n) (eq-eqb (bit_at rels n) 1 h)
 
 stays : (rels n : ℕ) (x : Env) → (Has rels n → ⊥) → without rels x n ≡ x n
-stays rels n x h = ap (λ b. if b then None else x n) (not_eq (bit_at rels n) 1 h)
+stays rels n x h = ap (λ b. if b then None else x n) (ne_eqb (bit_at rels n) 1 h)
 
 module _ (left right : List Entry) (rels : ℕ) (are : AreRels rels right) (apart : Disjoint left right) (env : Env) where
-  both_fit : (x u : Env) → Fit left env x → Fit right env u → Fit (left ++ right) env (with_rows rels x u)
+  pub both_fit : (x u : Env) → Fit left env x → Fit right env u → Fit (left ++ right) env (with_rows rels x u)
   both_fit x u f g = record {
     rows = each_append (IsEntryOf (with_rows rels x u)) left right
         (each_entry (IsEntryOf x) (IsEntryOf (with_rows rels x u)) left (λ e p r. subst (IsRowFor e.columns) (sym (elsewhere rels e.relation x u (λ h. apart e.relation p ((are e.relation).0 h)))) r) f.rows)
@@ -283,7 +283,7 @@ leaf_are rel columns n = (
 pub leaf_fits : (rel : ℕ) (columns : List Column) (env : Env) (row : Row) → IsRowOf columns row → Fit (record { relation = rel; columns = columns } ∷ []) env (with_row env rel row)
 leaf_fits rel columns env row h = record {
   rows = (subst (IsRowFor columns) (sym (ap (λ b. if b then Some row else env rel) (eq_self rel))) h, tt);
-  others = λ n out. ap (λ b. if b then Some row else env n) (not_eq n rel (λ e. out (or_first (n == rel) false (eq-eqb n rel e))));
+  others = λ n out. ap (λ b. if b then Some row else env n) (ne_eqb n rel (λ e. out (or_first (n == rel) false (eq-eqb n rel e))));
 }
 
 -- ---- cells of an expression above a tree
@@ -309,7 +309,7 @@ seen_cell tuple rel col outer [] h o = o (λ p. cc)
 seen_cell tuple rel col outer (e ∷ entries) h o = elim (cases_eq e.relation rel) [
   | inl same ↦ subst (λ b. IsCellOfSome (slice_get (if b then e.columns else visible_columns (entries ++ outer) rel) col) (cell_in (tuple rel) col)) (sym (eq-eqb e.relation rel same))
       (entry_cell e.columns (tuple rel) col (subst (λ n. IsRowFor e.columns (tuple n)) same h.0))
-  | inr other ↦ subst (λ b. IsCellOfSome (slice_get (if b then e.columns else visible_columns (entries ++ outer) rel) col) (cell_in (tuple rel) col)) (sym (not_eq e.relation rel other))
+  | inr other ↦ subst (λ b. IsCellOfSome (slice_get (if b then e.columns else visible_columns (entries ++ outer) rel) col) (cell_in (tuple rel) col)) (sym (ne_eqb e.relation rel other))
       (seen_cell tuple rel col outer entries h.1 (λ out. o (λ p. elim (or_true (rel == e.relation) (is_entry entries rel) p) [ inl q ↦ other (sym (eqb-true rel e.relation q)) | inr q ↦ out q ])))
 ]
 

@@ -12,7 +12,8 @@ use Rattle.jp_query.specs.Refs.{only}
 use Rattle.jp_query.specs.Meaning.{Row, Env, cell_in, has, is_present, any_present, with_row, with_rows, without}
 use Rattle.jp_query.specs.Parts.{ColumnRef}
 use Rattle.jp_laws.specs.SameCells.{IsSameCell, IsSamePresence, AreTwins}
-use Rattle.jp_laws.proofs.Agreeing.{not_eq}
+use Rattle.std.proofs.lemmas.Bool.{ne_eqb}
+use Rattle.jp_base.proofs.MaskAlgebra.{left_only}
 use Rattle.jp_induction.proofs.Between.{Kept}
 
 -- ---- rows of a set
@@ -21,16 +22,13 @@ in_set : (r : ℕ) (x u : Env) (i : ℕ) → Has r i → with_rows r x u i ≡ u
 in_set r x u i p = ap (λ b. if b then u i else x i) (eq-eqb (bit_at r i) 1 p)
 
 not_in_set : (r : ℕ) (x u : Env) (i : ℕ) → ¬ Has r i → with_rows r x u i ≡ x i
-not_in_set r x u i n = ap (λ b. if b then u i else x i) (not_eq (bit_at r i) 1 n)
+not_in_set r x u i n = ap (λ b. if b then u i else x i) (ne_eqb (bit_at r i) 1 n)
 
 gone : (r : ℕ) (x : Env) (i : ℕ) → Has r i → without r x i ≡ None
 gone r x i p = ap (λ b. if b then None else x i) (eq-eqb (bit_at r i) 1 p)
 
 stays : (r : ℕ) (x : Env) (i : ℕ) → ¬ Has r i → without r x i ≡ x i
-stays r x i n = ap (λ b. if b then None else x i) (not_eq (bit_at r i) 1 n)
-
-left_only : (l r i : ℕ) → Has (bit_or l r) i → ¬ Has r i → Has l i
-left_only l r i h n = elim ((has_or l r i).0 h) [ inl p ↦ p | inr q ↦ absurd (n q) ]
+stays r x i n = ap (λ b. if b then None else x i) (ne_eqb (bit_at r i) 1 n)
 
 module _ (env other : Env) where
   abbrev Twins : ℕ → Env → Env → Type 0
@@ -84,7 +82,7 @@ module _ (env other : Env) where
       others : (i : ℕ) → ¬ Has (only rel) i → (with_row env rel row i ≡ env i) × (with_row other rel row i ≡ other i)
       others i n =
           let apart : ¬ (i ≡ rel) = λ e. n (ap (λ k. bit_at (2 ^ rel) k) e ∙ bit_at-pow_same rel) in
-          (ap (λ b. if b then Some row else env i) (not_eq i rel apart), ap (λ b. if b then Some row else other i) (not_eq i rel apart))
+          (ap (λ b. if b then Some row else env i) (ne_eqb i rel apart), ap (λ b. if b then Some row else other i) (ne_eqb i rel apart))
 
   -- ---- cells
 
@@ -109,7 +107,7 @@ some_below p q n h start (suc len) low = λ i. h start (omega (arith, low)) i ||
 present_same : (u v : Env) (rels i : ℕ) → i < 64 → IsSamePresence u v rels → is_present rels u i ≡ is_present rels v i
 present_same u v rels i low h = elim (cases_eq (bit_at rels i) 1) [
   | inl p ↦ ap (λ b. has rels i && b) (h i low p)
-  | inr d ↦ ap (λ b. b && is_some (u i)) (not_eq (bit_at rels i) 1 d) ∙ sym (ap (λ b. b && is_some (v i)) (not_eq (bit_at rels i) 1 d))
+  | inr d ↦ ap (λ b. b && is_some (u i)) (ne_eqb (bit_at rels i) 1 d) ∙ sym (ap (λ b. b && is_some (v i)) (ne_eqb (bit_at rels i) 1 d))
 ]
 
 pub any_same : (u v : Env) (rels : ℕ) → IsSamePresence u v rels → any_present rels u ≡ any_present rels v

@@ -4,7 +4,7 @@ use Rattle.std.specs.Cmp.{IsStrictWeakOrder}
 use Rattle.std.specs.List.Sorted.{IsSortedBy, IsStableBy, ties}
 use Rattle.std.proofs.lemmas.List.Sorted.{sorted_far}
 use Rattle.jp_query.specs.Ordering.{Line, Direction, is_before, sorted}
-use Rattle.jp_laws.proofs.DistinctLaws.{In, from_in, filtered}
+use Rattle.jp_facts.proofs.Members.{In, from_in, from_filter}
 use Rattle.jp_laws.proofs.SortLaws.{neighbours, stable}
 use Rattle.jp_laws.proofs.ValueLaws.{lines_weak}
 
@@ -56,7 +56,7 @@ module _ {X : Type 0} where
     tied x y p q = both_not (lt x y) (lt y x) p q
 
     found : (x : X) (xs ys : List X) → filter (ties lt x) (x ∷ xs) ≡ filter (ties lt x) ys → In x ys
-    found x xs ys e = (filtered (ties lt x) x ys (subst (λ zs. In x zs) (sym (first_kept (ties lt x) x xs (tied x x (never x) (never x))) ∙ e) (inl refl))).1
+    found x xs ys e = (from_filter (ties lt x) x ys (subst (λ zs. In x zs) (sym (first_kept (ties lt x) x xs (tied x x (never x) (never x))) ∙ e) (inl refl))).1
 
     not_below : (x y : X) (ys : List X) → Above y ys → In x (y ∷ ys) → lt x y ≡ false
     not_below x y ys a (inl e) = ap (λ z. lt z y) (sym e) ∙ never y

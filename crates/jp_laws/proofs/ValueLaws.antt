@@ -11,13 +11,8 @@ use Rattle.std.proofs.lemmas.List.MinMax.{ranks_by}
 use Rattle.jp_base.specs.declared.values.Value.{Value}
 use Rattle.jp_base.specs.declared.values.Value.TheVariants as value
 use Rattle.jp_base.specs.Values.{order_of, are_same, total_order_of}
-use Rattle.jp_base.proofs.ValueOrder.{values_total, tie_equal, same_order, same_total}
+use Rattle.jp_base.proofs.ValueOrder.{values_total, tied, tie_equal, same_order, same_total}
 use Rattle.jp_query.specs.Ordering.{Row, Line, Direction, same_rows, turned, key_order, first_key, later_keys, keys_order, is_before}
-
-eq_true : (o : Ordering) → is_eq o ≡ true → o ≡ Equal
-eq_true Less h = cc
-eq_true Equal h = refl
-eq_true Greater h = cc
 
 -- values are the same where they tie
 same_tie : (a b : Value) → are_same a b ≡ is_eq (total_order_of a b)
@@ -39,7 +34,7 @@ same_tie (value.Text a) (value.Bool b) = refl
 same_tie (value.Text a) (value.Text b) = refl
 
 value_equal : (a b : Value) → are_same a b ≡ true → a ≡ b
-value_equal a b h = tie_equal a b (eq_true (total_order_of a b) (sym (same_tie a b) ∙ h))
+value_equal a b h = tie_equal a b (tied (total_order_of a b) (sym (same_tie a b) ∙ h))
 
 value_same : (a : Value) → are_same a a ≡ true
 value_same a = same_tie a a ∙ ap is_eq (tied_itself values_total a)

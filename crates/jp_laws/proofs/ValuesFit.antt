@@ -93,7 +93,7 @@ abs_turned : (a : ℤ) → nat_abs (neg_ℤ a) ≡ nat_abs a
 abs_turned (pos n) = abs_neg n
 abs_turned (negsuc n) = refl
 
-abs_product : (a b : ℤ) → nat_abs (a *ℤ b) ≡ nat_abs a * nat_abs b
+pub abs_product : (a b : ℤ) → nat_abs (a *ℤ b) ≡ nat_abs a * nat_abs b
 abs_product (pos a) (pos b) = refl
 abs_product (pos a) (negsuc b) = abs_neg (a * suc b)
 abs_product (negsuc a) (pos b) = abs_neg (suc a * b)
@@ -111,7 +111,7 @@ abs_sum (negsuc a) (negsuc b) = omega arith
 
 -- ---- values
 
-nothing : (t : Ty) (n : ℕ) → Fits t n value.Null
+pub nothing : (t : Ty) (n : ℕ) → Fits t n value.Null
 nothing t n = record { typed = tt; within = tt }
 
 truth_fits : (n : ℕ) (t : Truth) → Fits ty.Boolean n (value_of_truth t)
@@ -122,7 +122,7 @@ truth_fits n Unknown = record { typed = tt; within = tt }
 bool_fits : (n : ℕ) (b : Bool) → Fits ty.Boolean n (value.Bool b)
 bool_fits n b = record { typed = tt; within = tt }
 
-number_fits : (n : ℕ) (a : ℤ) → nat_abs a ≤ n → Fits ty.Number n (value.Num a)
+pub number_fits : (n : ℕ) (a : ℤ) → nat_abs a ≤ n → Fits ty.Number n (value.Num a)
 number_fits n a h = record { typed = tt; within = h }
 
 literal_fits : (v : Value) (t : Ty) → is_literal v t ≡ true → Fits t (magnitude v) v
@@ -141,13 +141,13 @@ wider t n m (value.Num a) le h = record { typed = h.typed; within = omega (arith
 wider t n m (value.Bool b) le h = record { typed = h.typed; within = tt }
 wider t n m (value.Text s) le h = record { typed = h.typed; within = tt }
 
-turned_fits : (n : ℕ) (v : Value) → Fits ty.Number n v → Fits ty.Number n (negated v)
+pub turned_fits : (n : ℕ) (v : Value) → Fits ty.Number n v → Fits ty.Number n (negated v)
 turned_fits n (value.Num a) h = number_fits n (neg_ℤ a) (subst (λ k. k ≤ n) (sym (abs_turned a)) h.within)
 turned_fits n value.Null h = nothing ty.Number n
 turned_fits n (value.Bool b) h = nothing ty.Number n
 turned_fits n (value.Text s) h = nothing ty.Number n
 
-plus_fits : (n m : ℕ) (a b : Value) → Fits ty.Number n a → Fits ty.Number m b → Fits ty.Number (n + m) (plus a b)
+pub plus_fits : (n m : ℕ) (a b : Value) → Fits ty.Number n a → Fits ty.Number m b → Fits ty.Number (n + m) (plus a b)
 plus_fits n m (value.Num a) (value.Num b) p q = number_fits (n + m) (a +ℤ b) (omega (arith, abs_sum a b, p.within, q.within))
 plus_fits n m (value.Num a) value.Null p q = nothing ty.Number (n + m)
 plus_fits n m (value.Num a) (value.Bool b) p q = nothing ty.Number (n + m)
@@ -156,7 +156,7 @@ plus_fits n m value.Null b p q = nothing ty.Number (n + m)
 plus_fits n m (value.Bool a) b p q = nothing ty.Number (n + m)
 plus_fits n m (value.Text a) b p q = nothing ty.Number (n + m)
 
-times_fits : (n m : ℕ) (a b : Value) → Fits ty.Number n a → Fits ty.Number m b → Fits ty.Number (n * m) (times a b)
+pub times_fits : (n m : ℕ) (a b : Value) → Fits ty.Number n a → Fits ty.Number m b → Fits ty.Number (n * m) (times a b)
 times_fits n m (value.Num a) (value.Num b) p q = number_fits (n * m) (a *ℤ b) (subst (λ k. k ≤ n * m) (sym (abs_product a b)) (mul-le (nat_abs a) (nat_abs b) n m p.within q.within))
 times_fits n m (value.Num a) value.Null p q = nothing ty.Number (n * m)
 times_fits n m (value.Num a) (value.Bool b) p q = nothing ty.Number (n * m)
@@ -178,7 +178,7 @@ text_fits : (n : ℕ) (a : Value) (values : List Value) → Fits ty.Text n a →
 text_fits n a [] h = h
 text_fits n a (v ∷ values) h = text_fits n (joined a v) values (joined_fits n a v)
 
-signed_fits : (b : Bool) (n : ℕ) (v : Value) → Fits ty.Number n v → Fits ty.Number n (signed (b, v))
+pub signed_fits : (b : Bool) (n : ℕ) (v : Value) → Fits ty.Number n v → Fits ty.Number n (signed (b, v))
 signed_fits true n v h = turned_fits n v h
 signed_fits false n v h = h
 

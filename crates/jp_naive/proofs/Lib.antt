@@ -1,7 +1,11 @@
-pub mod ExampleFacts
+pub mod CycleFacts
+pub mod Depth
+pub mod FrameFacts
+pub mod GivenFacts
+pub mod JoinFacts
+pub mod LineFacts
 pub mod ListFacts
+pub mod OuterLaws
+pub mod Passing
 pub mod Pieces
-pub mod QueryLaws
-pub mod TakesLaw
-pub mod TreeLaws
-pub mod TupleFacts
+pub mod Running

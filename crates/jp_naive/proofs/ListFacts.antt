@@ -1,44 +1,10 @@
--- One step more of a loop over a list.
-use Rattle.std.proofs.Common.{◌≡◌, ◌∙◌, ap, ap₂, sym, refl, ℕ, zero, suc, ◌+◌, ◌<◌, Bool, true, false, List, [], ◌∷◌, ◌++◌, length, get_or, drop, append_assoc, append-nil, arith}
-use Rattle.std.specs.Prelude.{◌&&◌, ◌==◌, filter}
-use Rattle.std.specs.List.{list_all}
-use Rattle.std.proofs.lemmas.Bool.{and_parts, eqb-true}
-use Rattle.std.proofs.lemmas.List.{at_drop_more, length-append}
-use Rattle.std.proofs.lemmas.List.Elements.{filter-append}
-use Rattle.jp_base.specs.declared.truth.Truth.{Truth}
-use Rattle.jp_base.specs.declared.truth.Truth.TheVariants as truth
-use Rattle.jp_query.specs.declared.Expr.{Expr}
-use Rattle.jp_query.specs.Operators.{is_true}
-use Rattle.jp_query.specs.Meaning.{Row, Env, holds, or_else, truth_of}
-use Rattle.jp_naive.specs.Tuples.{values_of}
-
--- what all elements have, one of them has
-pub one_of_all : {X : Type 0} (p : X → Bool) (xs : List X) (i : ℕ) (x : X) → x ≡ get_or xs i x → i < length xs → list_all p xs ≡ true → p x ≡ true
-one_of_all {X} p xs i x is there all = ap p is ∙ at xs i there all
-  where
-    at : (ys : List X) (k : ℕ) → k < length ys → list_all p ys ≡ true → p (get_or ys k x) ≡ true
-    at [] k h e = absurd (omega arith)
-    at (y ∷ ys) zero h e = (and_parts (p y) (list_all p ys) e).0
-    at (y ∷ ys) (suc k) h e = at ys k (omega arith) (and_parts (p y) (list_all p ys) e).1
-
-pub not_true : (t : Truth) → ¬ (t ≡ truth.True) → is_true t ≡ false
-not_true truth.True n = absurd (n refl)
-not_true truth.False n = refl
-not_true truth.Unknown n = refl
-
-module _ (tables : ℕ → List Row) (env : Env) where
-  cond_first : (conds : List Expr) (i : ℕ) (x : Expr) → x ≡ get_or conds i x → i < length conds
-      → holds (values_of tables (drop i conds)) env ≡ (is_true (truth_of tables x env) && holds (values_of tables (drop (i + 1) conds)) env)
-  cond_first conds i x is there =
-      at_drop_more (λ es. holds (values_of tables es) env) conds i x there
-      ∙ ap (λ y. is_true (truth_of tables y env) && holds (values_of tables (drop (i + 1) conds)) env) (sym is)
-
-  -- a condition that isn't true, and one that is
-  pub cond_fails : (conds : List Expr) (i : ℕ) (x : Expr) → x ≡ get_or conds i x → i < length conds → is_true (truth_of tables x env) ≡ false → holds (values_of tables (drop i conds)) env ≡ false
-  cond_fails conds i x is there fails = cond_first conds i x is there ∙ ap (λ b. b && holds (values_of tables (drop (i + 1) conds)) env) fails
-
-  pub cond_holds : (conds : List Expr) (i : ℕ) (x : Expr) → x ≡ get_or conds i x → i < length conds → is_true (truth_of tables x env) ≡ true → holds (values_of tables (drop i conds)) env ≡ holds (values_of tables (drop (i + 1) conds)) env
-  cond_holds conds i x is there true_there = cond_first conds i x is there ∙ ap (λ b. b && holds (values_of tables (drop (i + 1) conds)) env) true_there
+-- One step more of a loop over lists.
+use Rattle.std.proofs.Common.{◌≡◌, ◌∙◌, ap, ap₂, sym, refl, ℕ, zero, suc, ◌+◌, ◌<◌, ◌≤◌, Bool, true, false, not, ◌&&◌, cond, List, [], ◌∷◌, ◌++◌, length, get_or, drop, map, append_assoc, append-nil, add-one, inl, inr, arith}
+use Rattle.std.specs.Prelude.{replicate, min}
+use Rattle.std.specs.List.{flat_map, range_with_len}
+use Rattle.std.proofs.lemmas.Bool.{cases_lt}
+use Rattle.std.proofs.lemmas.List.{at_drop_more, at_drop_all}
+use Rattle.jp_naive.specs.Joining.{Numbers, pair_of, pairs_of, struck}
 
 -- A loop that adds to a list what each element of another list gives.
 module _ {X Y : Type 0} (all : List X → List Y) (one : X → List Y) where
@@ -50,20 +16,60 @@ module _ {X Y : Type 0} (all : List X → List Y) (one : X → List Y) where
       ∙ ap (λ ys. so_far ++ ys) (sym (at_drop_more all xs i d there ∙ step (get_or xs i d) (drop (i + 1) xs)))
       ∙ e
 
-pub filter_first : {X : Type 0} (p : X → Bool) (x : X) (xs : List X) → filter p (x ∷ xs) ≡ filter p (x ∷ []) ++ filter p xs
-filter_first p x xs = filter-append p (x ∷ []) xs
+pub replicate_more : {X : Type 0} (n : ℕ) (x : X) → replicate (n + 1) x ≡ replicate n x ++ x ∷ []
+replicate_more n x = ap (λ k. replicate k x) (add-one n) ∙ at n
+  where
+    at : (n : ℕ) → replicate (suc n) x ≡ replicate n x ++ x ∷ []
+    at zero = refl
+    at (suc n) = ap (λ xs. x ∷ xs) (at n)
 
-pub every_kept : (tuples : List Env) → filter (holds []) tuples ≡ tuples
-every_kept [] = refl
-every_kept (tuple ∷ tuples) = ap (λ ts. tuple ∷ ts) (every_kept tuples)
+pub range_more : (a n : ℕ) → range_with_len a (n + 1) ≡ range_with_len a n ++ (a + n) ∷ []
+range_more a n = ap (range_with_len a) (add-one n) ∙ at a n
+  where
+    at : (a n : ℕ) → range_with_len a (suc n) ≡ range_with_len a n ++ (a + n) ∷ []
+    at a zero = ap (λ k. k ∷ []) (omega arith)
+    at a (suc n) = ap (λ xs. a ∷ xs) (at (a + 1) n ∙ ap (λ k. range_with_len (a + 1) n ++ k ∷ []) (omega arith))
 
--- no condition takes a tuple away
-pub all_kept : (tables : ℕ → List Row) (conds : List Expr) (tuples : List Env) → true ≡ (length conds == 0) → tuples ≡ filter (holds (values_of tables conds)) tuples
-all_kept tables [] tuples e = sym (every_kept tuples)
-all_kept tables (cond ∷ conds) tuples e = absurd (omega (arith, eqb-true (length (cond ∷ conds)) 0 (sym e)))
+pub struck_more : (us ms : List Bool) (at : ℕ) (d e : Bool) → at < length us → at < length ms
+    → struck (drop at us) (drop at ms) ≡ (get_or us at d && not (get_or ms at e)) ∷ struck (drop (at + 1) us) (drop (at + 1) ms)
+struck_more us ms at d e h k =
+    at_drop_more (λ vs. struck vs (drop at ms)) us at d h
+    ∙ at_drop_more (λ ns. struck (get_or us at d ∷ drop (at + 1) us) ns) ms at e k
 
--- nothing was added, and then the tuple alone
-pub alone_added : (old mid new added : List Env) (tuple alone : Env)
-    → mid ≡ old ++ added → length mid ≡ length old → new ≡ mid ++ tuple ∷ [] → tuple ≡ alone → new ≡ old ++ or_else added alone
-alone_added old mid new [] tuple alone e l n a = n ∙ ap₂ (λ (es : List Env) (x : Env). es ++ x ∷ []) (e ∙ append-nil old) a
-alone_added old mid new (x ∷ xs) tuple alone e l n a = absurd (omega (arith, l, length-append old (x ∷ xs), ap length e))
+module _ (left : Numbers) where
+  pairs_at : (mark : Bool) (right : Numbers) (marks : List Bool) (rights : List Numbers) → pairs_of left (right ∷ rights) (mark ∷ marks) ≡ cond mark (pair_of left right ∷ []) [] ++ pairs_of left rights marks
+  pairs_at true right marks rights = refl
+  pairs_at false right marks rights = refl
+
+  pub pairs_more : (rights : List Numbers) (marks : List Bool) (at : ℕ) (r : Numbers) (m : Bool) → at < length rights → at < length marks
+      → pairs_of left (drop at rights) (drop at marks) ≡ cond (get_or marks at m) (pair_of left (get_or rights at r) ∷ []) [] ++ pairs_of left (drop (at + 1) rights) (drop (at + 1) marks)
+  pairs_more rights marks at r m h k =
+      at_drop_more (λ rs. pairs_of left rs (drop at marks)) rights at r h
+      ∙ at_drop_more (λ ms. pairs_of left (get_or rights at r ∷ drop (at + 1) rights) ms) marks at m k
+      ∙ pairs_at (get_or marks at m) (get_or rights at r) (drop (at + 1) marks) (drop (at + 1) rights)
+
+  no_rights : (marks : List Bool) → pairs_of left [] marks ≡ []
+  no_rights [] = refl
+  no_rights (m ∷ ms) = refl
+
+  pub pairs_end : (rights : List Numbers) (marks : List Bool) (at : ℕ) → min (length rights) (length marks) ≤ at → pairs_of left (drop at rights) (drop at marks) ≡ []
+  pairs_end rights marks at h = elim (cases_lt (length marks) (length rights)) [
+    | inl p ↦ at_drop_all (λ ms. pairs_of left (drop at rights) ms) marks at (omega (arith, h, p))
+    | inr q ↦ at_drop_all (λ rs. pairs_of left rs (drop at marks)) rights at (omega (arith, h, q)) ∙ no_rights (drop at marks)
+  ]
+
+  pub more_there : (rights : List Numbers) (marks : List Bool) (at : ℕ) → at < length rights → at < length marks → get_or marks at false ≡ true
+      → pairs_of left (drop at rights) (drop at marks) ≡ pair_of left (get_or rights at []) ∷ pairs_of left (drop (at + 1) rights) (drop (at + 1) marks)
+  more_there rights marks at h k e = pairs_more rights marks at [] false h k ∙ ap (λ b. cond b (pair_of left (get_or rights at []) ∷ []) [] ++ pairs_of left (drop (at + 1) rights) (drop (at + 1) marks)) e
+
+  pub more_elsewhere : (rights : List Numbers) (marks : List Bool) (at : ℕ) → at < length rights → at < length marks → get_or marks at false ≡ false
+      → pairs_of left (drop at rights) (drop at marks) ≡ pairs_of left (drop (at + 1) rights) (drop (at + 1) marks)
+  more_elsewhere rights marks at h k e = pairs_more rights marks at [] false h k ∙ ap (λ b. cond b (pair_of left (get_or rights at []) ∷ []) [] ++ pairs_of left (drop (at + 1) rights) (drop (at + 1) marks)) e
+
+module _ (rights : List Numbers) where
+  same_list : (rs : List Numbers) → rs ≡ map (pair_of []) rs
+  same_list [] = refl
+  same_list (r ∷ rs) = ap₂ (λ (x : Numbers) (xs : List Numbers). x ∷ xs) (sym (append-nil r)) (same_list rs)
+
+  pub alone_pairs : rights ≡ flat_map (λ l. map (pair_of l) rights) ([] ∷ [])
+  alone_pairs = same_list rights ∙ sym (append-nil (map (pair_of []) rights))

@@ -2,9 +2,8 @@
 use Rattle.std.proofs.Common.{◌≡◌, ◌∙◌, ap, ap₂, sym, subst, refl, ℕ, zero, suc, ◌+◌, ◌*◌, ◌<◌, ◌≤◌, List, [], ◌∷◌, ◌++◌, length, get_or, take, drop, arith}
 use Rattle.std.proofs.lemmas.List.{take_all, take-append-le, drop-append-le, drop-drop, length-drop, length-take-le}
 use Rattle.std.proofs.lemmas.Nat.{row_fits}
-use Rattle.std.specs.Prelude.{Option}
-use Rattle.jp_naive.specs.Found.{Found, added, split}
-use Rattle.jp_naive.specs.declared.tuple.Leaf.{Leaf}
+use Rattle.std.specs.Prelude.{All, Option}
+use Rattle.jp_naive.specs.Numbers.{Numbered, added, split}
 
 pub times : (n w : ℕ) → suc n * w ≡ w + n * w
 times n w = omega arith
@@ -50,9 +49,19 @@ module _ {X : Type 0} (w v n k : ℕ) (flat part : List X) (list : List (List X)
 split_same : {X : Type 0} (w m n : ℕ) (xs ys : List X) → m ≡ n → xs ≡ ys → split w m xs ≡ split w n ys
 split_same w m n xs ys e f = ap₂ (split w) e f
 
-pub pushed : (leaves : List Leaf) (n m : ℕ) (flat more rows : List (Option ℕ)) (found : Found) → record { leaves = leaves; list = split (length leaves) n flat } ≡ found → length flat ≡ n * length leaves
-    → m ≡ n + 1 → more ≡ flat ++ rows → length rows ≡ length found.leaves → record { leaves = leaves; list = split (length leaves) m more } ≡ added found rows
-pushed leaves n m flat more rows found is size next and_more fits =
-    let fits_here : length rows ≡ length leaves = fits ∙ ap (λ (f : Found). length f.leaves) (sym is) in
-    let list_is : split (length leaves) m more ≡ split (length leaves) n flat ++ rows ∷ [] = split_same (length leaves) m (suc n) more (flat ++ rows) (omega (arith, next)) and_more ∙ split_more (length leaves) n flat rows size fits_here in
-    ap (λ l. record { leaves = leaves; list = l }) list_is ∙ ap (λ f. added f rows) is
+pub pushed : (width n m : ℕ) (flat more tuple : List (Option ℕ)) (numbers : Numbered) → record { width = width; list = split width n flat } ≡ numbers → length flat ≡ n * width
+    → m ≡ n + 1 → more ≡ flat ++ tuple → length tuple ≡ numbers.width → record { width = width; list = split width m more } ≡ added numbers tuple
+pushed width n m flat more tuple numbers is size next and_more fits =
+    let fits_here : length tuple ≡ width = fits ∙ ap (λ (k : Numbered). k.width) (sym is) in
+    let list_is : split width m more ≡ split width n flat ++ tuple ∷ [] = split_same width m (suc n) more (flat ++ tuple) (omega (arith, next)) and_more ∙ split_more width n flat tuple size fits_here in
+    ap (λ l. record { width = width; list = l }) list_is ∙ ap (λ k. added k tuple) is
+
+-- each piece has the width
+pub pieces_whole : {X : Type 0} (w n : ℕ) (xs : List X) → length xs ≡ n * w → All (λ p. length p ≡ w) (split w n xs)
+pieces_whole w zero xs e k d h = absurd (omega arith)
+pieces_whole w (suc n) xs e zero d h = length-take-le w xs (omega (arith, e, times n w))
+pieces_whole w (suc n) xs e (suc k) d h = pieces_whole w n (drop w xs) (omega (arith, e, times n w, length-drop w xs)) k d (omega arith)
+
+-- one piece more
+pub pushed_size : (width n m size more : ℕ) → size ≡ n * width → m ≡ n + 1 → more ≡ size + width → more ≡ m * width
+pushed_size width n m size more e f g = rw f (omega (arith, times n width, e, g))

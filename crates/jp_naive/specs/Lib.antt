@@ -1,4 +1,7 @@
-pub mod Example
-pub mod Found
-pub mod Outputs
-pub mod Tuples
+pub mod Frames
+pub mod Joining
+pub mod Lines
+pub mod Numbers
+pub mod Running
+pub mod Sublinks
+pub mod Whole

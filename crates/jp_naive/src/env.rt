@@ -1,107 +1,162 @@
-ghost use Rattle.std.specs.Prelude.{◌≡◌, ◌<◌, ◌↔◌, ◌⊎◌, ℕ, IfOk, IsSome, true, Some};
-ghost use Rattle.std.specs.List.{list_all};
+ghost use Rattle.std.specs.Prelude.{◌≡◌, ◌<◌, ◌↔◌, ◌⊎◌, ℕ, IsSome, IsTrue, Some, [], slice_index_or};
 ghost use Rattle.jp_base.specs.Cells.{value_of_cell};
 ghost use Rattle.jp_base.specs.Sets.{Has};
-ghost use Rattle.jp_query.specs.Meaning.{cell_in, holds as all_hold};
+ghost use Rattle.jp_query.specs.Meaning.{Env as Environment, cell_in};
 ghost use Rattle.jp_query.specs.Tables.{rows_of_tables, TableRows};
-ghost use Rattle.jp_query.specs.Evaluable.{expr_is_built};
-ghost use Rattle.jp_naive.specs.Tuples.{env_of, row_at, row_in, values_of};
+ghost use Rattle.jp_naive.specs.Frames.{cell_or, env_of, env_over, lent_values, place_env};
+ghost use Rattle.jp_naive.specs.Sublinks.{env_of_place_env, rows_by_number};
 
-use crate::tuple::Tuple;
-use jp_base::{Cell, Memory, RelNo, RelSet, Row, SubNo, Truth};
-use jp_eval::{Env, holds};
-use jp_query::Expr;
+use crate::frames::{
+    Frame, Leaf, LentRow, OuterRow, Place, Seen, is_present, row_outside, seen_in,
+};
+use crate::sublinks::Lent;
+use jp_base::{Cell, RelNo, RelSet, Row, SubNo, Value};
+use jp_eval::Env;
 use jp_table::Tables;
 
-/// Which row of which table: the table's place in the catalogue and the row's number in the file, both from 0.
+/// The environment of a place, with the rows of sublinks that were computed for an expression there.
 #[derive(Clone, Copy)]
-pub struct RowId {
-    pub table: u32,
-    pub row: u64,
+pub struct PlaceEnv<'t> {
+    tables: &'t Tables,
+    first: Frame<'t>,
+    second: Frame<'t>,
+    outer: &'t [OuterRow],
+    lent: &'t [Lent],
 }
 
-/// The environment that a tuple stands for. It has no rows for sublinks.
-#[derive(Clone, Copy)]
-pub struct TupleEnv<'t> {
-    pub tables: &'t Tables,
-    pub tuple: Tuple<'t>,
+/// The environment of the place, with the rows.
+pub fn env_at<'t, 'f, 's, 'o>(
+    tables: &'t Tables,
+    place: Place<'f, 's, 'o>,
+    lent: &'t [Lent],
+) -> PlaceEnv<'t>
+where
+    'f: 't,
+    's: 't,
+    'o: 't,
+    ensures environment { env_of_place_env result ≡ place_env tables.now.list place.entry }
+    ensures lent { result.lent.now ≡ lent.now }
+{
+    let first = Frame {
+        leaves: place.first.leaves,
+        numbers: place.first.numbers,
+    };
+    let second = Frame {
+        leaves: place.second.leaves,
+        numbers: place.second.numbers,
+    };
+    let outer = place.outer;
+    PlaceEnv {
+        tables,
+        first,
+        second,
+        outer,
+        lent,
+    }
 }
 
-impl Env for TupleEnv<'_> {
-    ghost use Rattle.std.specs.Prelude.{[]};
-    ghost use Rattle.jp_naive.specs.Tuples.{env_of};
+impl Env for PlaceEnv<'_> {
+    ghost use Rattle.jp_naive.specs.Sublinks.{env_of_place_env, rows_by_number};
 
-    ghost environment = { λ s. env_of s.tables.now.list s.tuple.leaves.now s.tuple.rows.now };
+    ghost environment = { env_of_place_env };
 
-    ghost sublink_rows = { λ s sub. [] };
+    ghost sublink_rows = { λ s. rows_by_number s.lent.now };
 
     fn cell(&self, rel: RelNo, col: u32) -> Cell<'_> {
-        match row_id_of(self.tuple, rel) {
-            Some(id) => cell_at(self.tables, id, col),
-            None => Cell::Null,
+        let first = self.first;
+        match tuple_cell(self.tables, first.leaves, first.numbers, rel, col) {
+            Some(cell) => cell,
+            None => {
+                let second = self.second;
+                match tuple_cell(self.tables, second.leaves, second.numbers, rel, col) {
+                    Some(cell) => cell,
+                    None => outer_cell(self.tables, self.outer, rel, col),
+                }
+            }
         }
     }
 
     fn present(&self) -> RelSet {
-        relations(self.tuple)
+        relations(Place {
+            first: self.first,
+            second: self.second,
+            outer: self.outer,
+        })
     }
 
-    fn rows_of(&self, _sub: SubNo) -> &[Row] {
-        &[]
+    fn rows_of(&self, sub: SubNo) -> &[Row] {
+        rows_with_number(self.lent, sub)
     }
 }
 
-/// Which row a relation has: that of its first leaf, and None where it is absent.
-fn row_id_of(tuple: Tuple<'_>, rel: RelNo) -> Option<RowId>
-    ensures { (tables : TableRows) → row_in tables result ≡ env_of tables tuple.entry.leaves.now tuple.entry.rows.now rel }
+/// The rows of a sublink, by its number.
+fn rows_with_number(lent: &[Lent], sub: SubNo) -> &[Row]
+    ensures { result.now ≡ rows_by_number lent.now sub }
 {
-    for at in 0..tuple.leaves.len().min(tuple.rows.len()) {
-        if tuple.leaves[at].rel == rel {
-            return row_id(tuple.leaves[at].table, tuple.rows[at]);
+    'lent: for rows in lent {
+        if rows.number == sub {
+            return rows.rows.as_slice();
         }
     }
-    None
+    &[]
 }
 
-fn row_id(table: u32, row: Option<u64>) -> Option<RowId>
-    ensures { (tables : TableRows) → row_in tables result ≡ row_at tables table row }
+/// The cell of a relation of a tuple and a column, None where the tuple has no such relation.
+fn tuple_cell<'t>(
+    tables: &'t Tables,
+    leaves: &'t [Leaf],
+    numbers: &[Option<u64>],
+    rel: RelNo,
+    col: u32,
+) -> Option<Cell<'t>>
+    ensures { (outer : Environment) → cell_or result (cell_in (outer rel) col) ≡ cell_in (env_over tables.now.list leaves.now numbers.now outer rel) col }
+{
+    match seen_in(leaves, numbers, rel) {
+        Seen::Elsewhere => None,
+        Seen::Absent => Some(Cell::Null),
+        Seen::Here(row) => Some(cell_of(tables, row, col)),
+    }
+}
+
+/// The cell of a relation of the outer levels and a column.
+fn outer_cell<'t>(tables: &'t Tables, outer: &'t [OuterRow], rel: RelNo, col: u32) -> Cell<'t>
+    ensures { value_of_cell result ≡ cell_in (env_of tables.now.list outer.now rel) col }
+{
+    match row_outside(outer, rel) {
+        Seen::Elsewhere => Cell::Null,
+        Seen::Absent => Cell::Null,
+        Seen::Here(row) => cell_of(tables, row, col),
+    }
+}
+
+/// The cell of a row and a column. It is NULL where there is no such table, row or column.
+fn cell_of<'t>(tables: &'t Tables, row: LentRow<'t>, col: u32) -> Cell<'t>
+    ensures { value_of_cell result ≡ cell_in (Some (lent_values tables.now.list row.entry)) col }
 {
     match row {
-        Some(row) => Some(RowId { table, row }),
-        None => None,
+        LentRow::Stored(table, row) => stored_cell(tables, table, row, col),
+        LentRow::Made(row) => made_cell(row, col),
     }
 }
 
-/// The relations that have a row.
-fn relations(tuple: Tuple<'_>) -> RelSet
-    ensures { (tables : TableRows) (i : ℕ) → i < 64 → Has result i ↔ IsSome (env_of tables tuple.entry.leaves.now tuple.entry.rows.now i) }
+/// The cell of a row in memory, NULL where there is no such column.
+fn made_cell(row: &[Value], col: u32) -> Cell<'_>
+    ensures { value_of_cell result ≡ cell_in (Some row.now) col }
 {
-    let mut present = RelSet::empty();
-    for rel in 0..64 {
-        present = with_relation(present, rel, row_id_of(tuple, rel));
-    }
-    present
-}
-
-/// The set, and the relation beside if it has a row.
-fn with_relation(set: RelSet, rel: RelNo, id: Option<RowId>) -> RelSet
-    requires { rel < 64 }
-    ensures { (i : ℕ) → Has result i ↔ (Has set i ⊎ ((i ≡ rel) × IsSome id)) }
-{
-    match id {
-        Some(_) => set.union(RelSet::one(rel)),
-        None => set,
+    match row.get(col as usize) {
+        Some(value) => value.cell(),
+        None => Cell::Null,
     }
 }
 
 /// The cell of a table's row and a column. It is NULL where there is no such table, row or column.
-fn cell_at(tables: &Tables, id: RowId, col: u32) -> Cell<'_>
-    ensures { value_of_cell result ≡ cell_in (row_in tables.now.list (Some id)) col }
+fn stored_cell(tables: &Tables, table: u32, row: u64, col: u32) -> Cell<'_>
+    ensures { value_of_cell result ≡ cell_in (Some (slice_index_or (rows_of_tables tables.now.list table) row [])) col }
 {
-    match tables.list.get(id.table as usize) {
+    match tables.list.get(table as usize) {
         Some(Some(table)) => {
-            if id.row < table.rows() && (col as usize) < table.width() {
-                table.cell(id.row, col)
+            if row < table.rows() && (col as usize) < table.width() {
+                table.cell(row, col)
             } else {
                 Cell::Null
             }
@@ -110,17 +165,25 @@ fn cell_at(tables: &Tables, id: RowId, col: u32) -> Cell<'_>
     }
 }
 
-/// Whether each condition of a list is true in the environment of the tuple.
-pub fn passes(conds: &[Expr], tables: &Tables, tuple: Tuple<'_>) -> Result<bool, Memory>
-    requires { list_all expr_is_built conds.now ≡ true }
-    ensures { IfOk result (λ b. b ≡ all_hold (values_of (rows_of_tables tables.now.list) conds.now) (env_of tables.now.list tuple.entry.leaves.now tuple.entry.rows.now)) }
+/// The relations that have a row.
+fn relations(place: Place<'_, '_, '_>) -> RelSet
+    ensures { (tables : TableRows) (i : ℕ) → i < 64 → Has result i ↔ IsSome (place_env tables place.entry i) }
 {
-    let env = TupleEnv { tables, tuple };
-    for cond in conds {
-        match holds(cond, &env)? {
-            Truth::True => {}
-            _ => return Ok(false),
-        }
+    let mut present = RelSet::empty();
+    'relations: for rel in 0..64 {
+        present = with_relation(present, rel, is_present(place, rel));
     }
-    Ok(true)
+    present
+}
+
+/// The set, and the relation beside if it has a row.
+fn with_relation(set: RelSet, rel: RelNo, present: bool) -> RelSet
+    requires { rel < 64 }
+    ensures { (i : ℕ) → Has result i ↔ (Has set i ⊎ ((i ≡ rel) × IsTrue present)) }
+{
+    if present {
+        set.union(RelSet::one(rel))
+    } else {
+        set
+    }
 }

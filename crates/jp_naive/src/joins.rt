@@ -1,141 +1,167 @@
-ghost use Rattle.std.specs.Prelude.{◌≡◌, ◌++◌, ◌∷◌, [], IfOk, OnOk, bit_or, filter, length, map, true};
-ghost use Rattle.std.specs.List.{flat_map, list_all};
-ghost use Rattle.jp_query.specs.Joins.{join_rels};
-ghost use Rattle.jp_query.specs.Meaning.{holds, join_tuples, pairs, pairs_or_alone, left_join as left_join_of};
-ghost use Rattle.jp_query.specs.Tables.{rows_of_tables};
-ghost use Rattle.jp_query.specs.Evaluable.{expr_is_built};
-ghost use Rattle.jp_naive.specs.Tuples.{absent, env_of, envs_in, is_joined, rels_of, values_of};
+ghost use Rattle.std.specs.Prelude.{◌≡◌, ◌<◌, ◌+◌, ◌++◌, ◌∷◌, [], ◌&&◌, Bool, true, not, IfOk, OnOk, length, map, vec_len, replicate, if◌then◌else◌};
+ghost use Rattle.std.specs.List.{list_any, slice_index_or};
+ghost use Rattle.jp_naive.specs.Joining.{absent, is_full, is_marked, joined_leaves, joined_width, pairs_of, pairs_or_left, part_of, struck};
 
-use crate::env::passes;
-use crate::tuple::{Leaf, Tuple, Tuples};
+use crate::frames::Leaf;
+use crate::leaves::followed;
+use crate::numbers::Numbers;
 use jp_base::Memory;
-use jp_query::{Expr, JoinKind};
-use jp_table::Tables;
+use jp_query::JoinKind;
 use std::alloc::Global;
 
-/// The tuples of a join of two trees' tuples.
-pub fn join(
-    alloc: Global,
+/// Adds the tuples that a left tuple gives to a join, by which right tuples match it. A Right join is a Left join with its
+/// sides exchanged.
+pub fn push_part(
     kind: JoinKind,
-    left: &Tuples,
-    right: &Tuples,
-    on: &[Expr],
-    tables: &Tables,
-) -> Result<Tuples, Memory>
-    requires joined { is_joined kind ≡ true }
-    requires on { list_all expr_is_built on.now ≡ true }
-    ensures rels { IfOk result (λ t. rels_of t.leaves ≡ join_rels kind (rels_of left.now.leaves) (rels_of right.now.leaves)) }
-    ensures tuples { IfOk result (λ t. envs_in tables.now.list t ≡
-        join_tuples kind (values_of (rows_of_tables tables.now.list) on.now) (rels_of left.now.leaves) (envs_in tables.now.list left.now) (rels_of right.now.leaves) (envs_in tables.now.list right.now)) }
+    found: &mut Numbers,
+    left: &[Option<u64>],
+    right: &Numbers,
+    missing: &[Option<u64>],
+    marks: &[bool],
+) -> Result<(), Memory>
+    requires width { found.now.width ≡ joined_width kind right.now.width (length left.now) }
+    requires missing { missing.now ≡ absent right.now.width }
+    ensures width { found.new.width ≡ found.old.width }
+    ensures more { OnOk result (found.new.list ≡ found.old.list ++ part_of kind right.now.width left.now right.now.list marks.now) }
 {
     match kind {
-        JoinKind::Inner => {
-            let list = inner_join(alloc, left, right, on, tables)?;
-            Ok(list)
+        JoinKind::Inner => push_pairs(found, left, right, marks),
+        JoinKind::Left => push_pairs_or_left(found, left, right, missing, marks),
+        JoinKind::Right => push_pairs_or_left(found, left, right, missing, marks),
+        JoinKind::Full => push_pairs_or_left(found, left, right, missing, marks),
+        JoinKind::Semi => {
+            if any_marked(marks) {
+                found.push(left, &[])
+            } else {
+                Ok(())
+            }
         }
-        JoinKind::Left => {
-            let list = left_join(alloc, left, right, on, tables)?;
-            Ok(list)
+        JoinKind::Anti => {
+            if any_marked(marks) {
+                Ok(())
+            } else {
+                found.push(left, &[])
+            }
         }
-        _ => unreachable!(),
     }
 }
 
-/// The pairs of the left and right tuples for which the conditions hold, the left tuple slowest.
-fn inner_join(
-    alloc: Global,
-    left: &Tuples,
-    right: &Tuples,
-    on: &[Expr],
-    tables: &Tables,
-) -> Result<Tuples, Memory>
-    requires { list_all expr_is_built on.now ≡ true }
-    ensures rels { IfOk result (λ t. rels_of t.leaves ≡ bit_or (rels_of left.now.leaves) (rels_of right.now.leaves)) }
-    ensures tuples { IfOk result (λ t. envs_in tables.now.list t ≡
-        flat_map (pairs (values_of (rows_of_tables tables.now.list) on.now) (rels_of right.now.leaves) (envs_in tables.now.list right.now)) (envs_in tables.now.list left.now)) }
-{
-    let mut list = Tuples::new(alloc, joined(alloc, right.leaves(), left.leaves())?);
-    for at in 0..left.len() {
-        push_pairs(alloc, &mut list, left.tuple(at), right, on, tables)?;
-    }
-    Ok(list)
-}
-
-/// For each left tuple its pairs, or, if there are none, itself with the right relations absent.
-fn left_join(
-    alloc: Global,
-    left: &Tuples,
-    right: &Tuples,
-    on: &[Expr],
-    tables: &Tables,
-) -> Result<Tuples, Memory>
-    requires { list_all expr_is_built on.now ≡ true }
-    ensures rels { IfOk result (λ t. rels_of t.leaves ≡ bit_or (rels_of left.now.leaves) (rels_of right.now.leaves)) }
-    ensures tuples { IfOk result (λ t. envs_in tables.now.list t ≡
-        left_join_of (values_of (rows_of_tables tables.now.list) on.now) (rels_of right.now.leaves) (envs_in tables.now.list left.now) (envs_in tables.now.list right.now)) }
-{
-    let mut list = Tuples::new(alloc, joined(alloc, right.leaves(), left.leaves())?);
-    for at in 0..left.len() {
-        push_pairs_or_alone(alloc, &mut list, left.tuple(at), right, on, tables)?;
-    }
-    Ok(list)
-}
-
-/// Adds the pairs of a left tuple, or, if there are none, the tuple with the right relations absent.
-fn push_pairs_or_alone(
-    alloc: Global,
-    list: &mut Tuples,
-    left: Tuple<'_>,
-    right: &Tuples,
-    on: &[Expr],
-    tables: &Tables,
+/// Adds the pairs of a left tuple with the right tuples that match it, or, if there are none, itself with the right
+/// relations absent.
+fn push_pairs_or_left(
+    found: &mut Numbers,
+    left: &[Option<u64>],
+    right: &Numbers,
+    missing: &[Option<u64>],
+    marks: &[bool],
 ) -> Result<(), Memory>
-    requires on { list_all expr_is_built on.now ≡ true }
-    requires leaves { list.now.leaves ≡ right.now.leaves ++ left.leaves.now }
-    requires whole { length left.rows.now ≡ length left.leaves.now }
-    ensures leaves { list.new.leaves ≡ list.old.leaves }
-    ensures more { OnOk result (envs_in tables.now.list list.new ≡ envs_in tables.now.list list.old
-        ++ pairs_or_alone (values_of (rows_of_tables tables.now.list) on.now) (rels_of right.now.leaves) (envs_in tables.now.list right.now) (env_of tables.now.list left.entry.leaves.now left.entry.rows.now)) }
+    requires width { found.now.width ≡ right.now.width + length left.now }
+    requires missing { missing.now ≡ absent right.now.width }
+    ensures width { found.new.width ≡ found.old.width }
+    ensures more { OnOk result (found.new.list ≡ found.old.list ++ pairs_or_left right.now.width left.now right.now.list marks.now) }
 {
-    let before = list.len();
-    push_pairs(alloc, list, left, right, on, tables)?;
-    if list.len() == before {
-        let missing = nowhere(alloc, right.leaves())?;
-        let alone = joined(alloc, missing.as_slice(), left.rows)?;
-        list.push(alone.as_slice())?;
+    if any_marked(marks) {
+        push_pairs(found, left, right, marks)
+    } else {
+        found.push(missing, left)
     }
-    Ok(())
 }
 
-/// Adds the pairs of a left tuple with the right tuples for which the conditions hold, in the order of the right ones.
+/// Adds the pairs of a left tuple with the right tuples that match it, in their order.
 fn push_pairs(
-    alloc: Global,
-    list: &mut Tuples,
-    left: Tuple<'_>,
-    right: &Tuples,
-    on: &[Expr],
-    tables: &Tables,
+    found: &mut Numbers,
+    left: &[Option<u64>],
+    right: &Numbers,
+    marks: &[bool],
 ) -> Result<(), Memory>
-    requires on { list_all expr_is_built on.now ≡ true }
-    requires leaves { list.now.leaves ≡ right.now.leaves ++ left.leaves.now }
-    requires whole { length left.rows.now ≡ length left.leaves.now }
-    ensures leaves { list.new.leaves ≡ list.old.leaves }
-    ensures more { OnOk result (envs_in tables.now.list list.new ≡ envs_in tables.now.list list.old
-        ++ pairs (values_of (rows_of_tables tables.now.list) on.now) (rels_of right.now.leaves) (envs_in tables.now.list right.now) (env_of tables.now.list left.entry.leaves.now left.entry.rows.now)) }
+    requires { found.now.width ≡ right.now.width + length left.now }
+    ensures width { found.new.width ≡ found.old.width }
+    ensures more { OnOk result (found.new.list ≡ found.old.list ++ pairs_of left.now right.now.list marks.now) }
 {
-    for at in 0..right.len() {
-        let pair = joined(alloc, right.tuple(at).rows, left.rows)?;
-        push_passing(list, pair.as_slice(), on, tables)?;
+    'rights: for at in 0..right.len().min(marks.len()) {
+        if marks[at] {
+            found.push(right.tuple(at), left)?;
+        }
     }
     Ok(())
 }
 
-/// Rows for none of the leaves.
-fn nowhere(alloc: Global, leaves: &[Leaf]) -> Result<Vec<Option<u64>>, Memory>
-    ensures { IfOk result (λ v. v.items ≡ map absent leaves.now) }
+/// Adds the right tuples that are marked, with the left relations absent.
+pub fn push_unmatched(
+    found: &mut Numbers,
+    missing: &[Option<u64>],
+    right: &Numbers,
+    marks: &[bool],
+) -> Result<(), Memory>
+    requires { found.now.width ≡ right.now.width + length missing.now }
+    ensures width { found.new.width ≡ found.old.width }
+    ensures more { OnOk result (found.new.list ≡ found.old.list ++ pairs_of missing.now right.now.list marks.now) }
+{
+    push_pairs(found, missing, right, marks)
+}
+
+/// Whether a mark is true.
+fn any_marked(marks: &[bool]) -> bool
+    ensures { result ≡ list_any is_marked marks.now }
+{
+    marks.iter().any(|mark| *mark)
+}
+
+/// The marks of the right tuples that still match no left one: of a Full join without those that match now.
+pub fn still_unmatched(
+    alloc: Global,
+    kind: JoinKind,
+    unmatched: Vec<bool>,
+    marks: &[bool],
+) -> Result<Vec<bool>, Memory>
+    requires { vec_len unmatched ≡ length marks.now }
+    ensures { IfOk result (λ v. v.items ≡ (if is_full kind then struck unmatched.items marks.now else unmatched.items)) }
+{
+    match kind {
+        JoinKind::Full => without(alloc, unmatched.as_slice(), marks),
+        JoinKind::Inner => Ok(unmatched),
+        JoinKind::Left => Ok(unmatched),
+        JoinKind::Right => Ok(unmatched),
+        JoinKind::Semi => Ok(unmatched),
+        JoinKind::Anti => Ok(unmatched),
+    }
+}
+
+/// The marks without those that are marked in the second list.
+fn without(alloc: Global, unmatched: &[bool], marks: &[bool]) -> Result<Vec<bool>, Memory>
+    requires { length unmatched.now ≡ length marks.now }
+    ensures { IfOk result (λ v. v.items ≡ struck unmatched.now marks.now) }
 {
     let mut list = Vec::new(alloc);
-    for _ in leaves {
+    'marks: for at in 0..unmatched.len() {
+        match list.push(unmatched[at] && !marks[at]) {
+            Ok(()) => {}
+            Err(_) => return Err(Memory),
+        }
+    }
+    Ok(list)
+}
+
+/// So many marks, all true.
+pub fn all_marked(alloc: Global, count: usize) -> Result<Vec<bool>, Memory>
+    ensures { IfOk result (λ v. v.items ≡ replicate count true) }
+{
+    let mut list = Vec::new(alloc);
+    'marks: for _ in 0..count {
+        match list.push(true) {
+            Ok(()) => {}
+            Err(_) => return Err(Memory),
+        }
+    }
+    Ok(list)
+}
+
+/// No row for so many leaves.
+pub fn nowhere(alloc: Global, width: usize) -> Result<Vec<Option<u64>>, Memory>
+    ensures { IfOk result (λ v. v.items ≡ absent width) }
+{
+    let mut list = Vec::new(alloc);
+    'leaves: for _ in 0..width {
         match list.push(None) {
             Ok(()) => {}
             Err(_) => return Err(Memory),
@@ -144,90 +170,39 @@ fn nowhere(alloc: Global, leaves: &[Leaf]) -> Result<Vec<Option<u64>>, Memory>
     Ok(list)
 }
 
-/// The first list, followed by the second.
-fn joined<T: Copy>(alloc: Global, first: &[T], second: &[T]) -> Result<Vec<T>, Memory>
-    ensures { IfOk result (λ v. v.items ≡ first.now ++ second.now) }
+/// For how many leaves the tuples of a join have numbers.
+pub fn width_of(kind: JoinKind, left: &Numbers, right: &Numbers) -> Result<usize, Memory>
+    ensures { IfOk result (λ width. width ≡ joined_width kind right.now.width left.now.width) }
 {
-    let mut list = Vec::new(alloc);
-    match list.extend_from_slice(first) {
-        Ok(()) => {}
-        Err(_) => return Err(Memory),
+    match kind {
+        JoinKind::Semi => Ok(left.width()),
+        JoinKind::Anti => Ok(left.width()),
+        JoinKind::Inner => sum(right.width(), left.width()),
+        JoinKind::Left => sum(right.width(), left.width()),
+        JoinKind::Right => sum(right.width(), left.width()),
+        JoinKind::Full => sum(right.width(), left.width()),
     }
-    match list.extend_from_slice(second) {
-        Ok(()) => {}
-        Err(_) => return Err(Memory),
-    }
-    Ok(list)
 }
 
-/// The tuples for which the conditions hold, in their order.
-pub fn filtered(
-    alloc: Global,
-    tuples: Tuples,
-    conds: &[Expr],
-    tables: &Tables,
-) -> Result<Tuples, Memory>
-    requires { list_all expr_is_built conds.now ≡ true }
-    ensures leaves { IfOk result (λ t. t.leaves ≡ tuples.leaves) }
-    ensures tuples { IfOk result (λ t. envs_in tables.now.list t ≡
-        filter (holds (values_of (rows_of_tables tables.now.list) conds.now)) (envs_in tables.now.list tuples)) }
+fn sum(a: usize, b: usize) -> Result<usize, Memory>
+    ensures { IfOk result (λ sum. sum ≡ a + b) }
 {
-    if conds.is_empty() {
-        return Ok(tuples);
+    match a.checked_add(b) {
+        Some(sum) => Ok(sum),
+        None => Err(Memory),
     }
-    let kept = kept_of(alloc, &tuples, conds, tables)?;
-    Ok(kept)
 }
 
-fn kept_of(
-    alloc: Global,
-    tuples: &Tuples,
-    conds: &[Expr],
-    tables: &Tables,
-) -> Result<Tuples, Memory>
-    requires { list_all expr_is_built conds.now ≡ true }
-    ensures leaves { IfOk result (λ t. t.leaves ≡ tuples.now.leaves) }
-    ensures tuples { IfOk result (λ t. envs_in tables.now.list t ≡
-        filter (holds (values_of (rows_of_tables tables.now.list) conds.now)) (envs_in tables.now.list tuples.now)) }
+/// The leaves of the tuples of a join.
+pub fn leaves_of(kind: JoinKind, left: Vec<Leaf>, right: Vec<Leaf>) -> Result<Vec<Leaf>, Memory>
+    ensures { IfOk result (λ v. v.items ≡ joined_leaves kind left.items right.items) }
 {
-    let mut list = Tuples::new(alloc, joined(alloc, tuples.leaves(), &[])?);
-    for at in 0..tuples.len() {
-        push_passing(&mut list, tuples.tuple(at).rows, conds, tables)?;
+    match kind {
+        JoinKind::Semi => Ok(left),
+        JoinKind::Anti => Ok(left),
+        JoinKind::Inner => followed(right, left),
+        JoinKind::Left => followed(right, left),
+        JoinKind::Right => followed(right, left),
+        JoinKind::Full => followed(right, left),
     }
-    Ok(list)
-}
-
-/// Adds the tuple if the conditions hold for it.
-fn push_passing(
-    list: &mut Tuples,
-    rows: &[Option<u64>],
-    conds: &[Expr],
-    tables: &Tables,
-) -> Result<(), Memory>
-    requires conds { list_all expr_is_built conds.now ≡ true }
-    requires whole { length rows.now ≡ length list.now.leaves }
-    ensures leaves { list.new.leaves ≡ list.old.leaves }
-    ensures more { OnOk result (envs_in tables.now.list list.new ≡ envs_in tables.now.list list.old
-        ++ filter (holds (values_of (rows_of_tables tables.now.list) conds.now)) (env_of tables.now.list list.old.leaves rows.now ∷ [])) }
-{
-    if !is_passing(list, rows, conds, tables)? {
-        return Ok(());
-    }
-    list.push(rows)?;
-    Ok(())
-}
-
-/// Whether the conditions hold for a tuple of the list's leaves.
-fn is_passing(
-    list: &Tuples,
-    rows: &[Option<u64>],
-    conds: &[Expr],
-    tables: &Tables,
-) -> Result<bool, Memory>
-    requires { list_all expr_is_built conds.now ≡ true }
-    ensures { IfOk result (λ b. b ≡ holds (values_of (rows_of_tables tables.now.list) conds.now) (env_of tables.now.list list.now.leaves rows.now)) }
-{
-    let leaves = list.leaves();
-    let passing = passes(conds, tables, Tuple { leaves, rows })?;
-    Ok(passing)
 }

@@ -1,4 +1,5 @@
 -- The readers of atoms are exact, where those of inner expressions and selects are.
+use Rattle.std.proofs.lemmas.Bool.{not-false}
 use Rattle.std.proofs.Common.{◌≡◌, ℕ, suc, Bool, true, false, not, ◌&&◌, ◌||◌, List, [], ◌∷◌, ◌++◌, Option, None, Some, refl, sym, ap, ◌∙◌, subst, append_assoc, true≢false}
 use Rattle.jp_ast.specs.declared.tree.Ast.{Ast}
 use Rattle.jp_ast.specs.declared.tree.Ast.TheVariants as ast
@@ -12,7 +13,7 @@ use Rattle.jp_ast.specs.Grammar.{IsAtom, IsExpr, IsSelect, AreExprs, MaybeOperan
 use Rattle.jp_parse.specs.Readers.{number_atom, text_atom, word_atom, after_name, name_atom, true_node, false_node, null_node, parens, exists, coalesce, operand_by, operand, arm, arms, otherwise_by, otherwise, cases, atom_by, atom}
 use Rattle.jp_parse.proofs.Exact.{Tokens, Set, nothing, either, Within, Stops, Reads, Inhabited, IsPure, IsThen, Starts, reads_then, reads_by, IsAfter, reads_after, begins_first, reads_pure, within_self, same_language, left_false}
 use Rattle.jp_parse.proofs.Samples.{sample, is_same, same_is, is_sample}
-use Rattle.jp_parse.proofs.Steps.{reads_last, some_last, last_is, last, reads_closed, some_closed, not_false, within_left, fewer, wider, Behind, behind_class, behind, some_behind, some_then, starts_behind, reads_enter, reads_expect, Word, some_word, reads_word, Named, some_named, reads_named, some_pure, Shifts, shift_pure, shift_after, shift_then, shift_behind, long_after, Placed, reads_placed, apart_is, within_nothing, starts_then, reads_pure_in, Chained, some_chained, reads_chained, Listed, reads_listed, chain_of, of_chain, word_cut, word}
+use Rattle.jp_parse.proofs.Steps.{reads_last, some_last, last_is, last, reads_closed, some_closed, within_left, fewer, wider, Behind, behind_class, behind, some_behind, some_then, starts_behind, reads_enter, reads_expect, Word, some_word, reads_word, Named, some_named, reads_named, some_pure, Shifts, shift_pure, shift_after, shift_then, shift_behind, long_after, Placed, reads_placed, apart_is, within_nothing, starts_then, reads_pure_in, Chained, some_chained, reads_chained, Listed, reads_listed, chain_of, of_chain, word_cut, word}
 use Rattle.jp_parse.proofs.Sets.{begins_expr, more_atom, more_expr, more_select}
 use Rattle.jp_parse.proofs.FirstTokens.{begins-IsExpr, begins-IsArm}
 use Rattle.jp_parse.proofs.Least.{some-IsExpr, some-IsSelect, some-IsArm, some-AreArms}
@@ -132,7 +133,7 @@ abbrev but_when : Set
 but_when c = not (is k.When c)
 
 operand_shape : (u s : Tokens) (v : Option Ast) → MaybeOperand u v → Stops but_when s → OperandBy (first (u ++ s)) u v
-operand_shape u s v (MaybeOperand.no_operand cut value) stop = subst (λ c. OperandBy c u v) (sym (ap (λ w. first (w ++ s)) cut ∙ is_same k.When (first s) (not_false (is k.When (first s)) stop))) (record { cut = cut; value = value })
+operand_shape u s v (MaybeOperand.no_operand cut value) stop = subst (λ c. OperandBy c u v) (sym (ap (λ w. first (w ++ s)) cut ∙ is_same k.When (first s) (not-false (is k.When (first s)) stop))) (record { cut = cut; value = value })
 operand_shape u s v (MaybeOperand.operand a inside value) stop = operand_some (first (u ++ s)) u v (begins_first begins_expr IsExpr u s a begins-IsExpr inside) (last IsExpr Some u a v inside value)
 
 within_but_when : Within more_expr but_when

@@ -297,7 +297,3 @@ reads_closed L c M X Y n p f out some law next = reads_then L (λ a. Behind c (M
 
 pub some_closed : {A B : Type 0} (L : Tokens → A → Type 0) (c : Class) (M : A → Tokens → B → Type 0) → Inhabited L → ((a : A) → Inhabited (M a)) → Inhabited (IsThen L (λ a. Behind c (M a)))
 some_closed L c M one more = some_then L (λ a. Behind c (M a)) one (λ a. some_behind c (M a) (more a))
-
-pub not_false : (b : Bool) → not b ≡ false → b ≡ true
-not_false true e = refl
-not_false false e = sym e

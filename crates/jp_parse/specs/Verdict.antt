@@ -1,5 +1,6 @@
 -- The answer to a list of tokens, by the readers.
 use Rattle.std.specs.Prelude.{◌≡◌, ◌⊎◌, ℕ, nat_lt, if◌then◌else◌, List, [], ◌∷◌, Option, Some, None, Result, Ok, Err}
+use Rattle.jp_base.specs.Answers.{OrMemory}
 use Rattle.jp_ast.specs.declared.tree.Stmt.{Stmt}
 use Rattle.jp_ast.specs.declared.errors.ParseError.{ParseError}
 use Rattle.jp_ast.specs.declared.errors.ParseError.TheVariants.{Syntax, TooDeep, Memory}
@@ -31,4 +32,4 @@ answer ts = judged ts (passing_from 0 ts)
 
 -- The answer is the defined one. Want of memory may come at any time.
 abbrev pub Agrees : Result Stmt ParseError → Result Stmt ParseError → Type 0
-Agrees result defined = (result ≡ Err Memory) ⊎ (result ≡ defined)
+Agrees result defined = OrMemory Memory defined result

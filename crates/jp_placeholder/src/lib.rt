@@ -33,8 +33,6 @@ pub fn wrap(alloc: Global, expr: Expr, rels: RelSet) -> Result<Expr, Memory>
     ensures given { (rows : ℕ → List Row) (env : Env) → IfOk result (λ placeholder.
         value_given rows placeholder env ≡ (if any_present rels env then value_given rows expr env else value.Null)) }
 {
-    match Boxed::new(alloc, expr) {
-        Ok(inner) => Ok(Expr::Place(inner, rels)),
-        Err(_) => Err(Memory),
-    }
+    let inner = Boxed::new(alloc, expr)?;
+    Ok(Expr::Place(inner, rels))
 }

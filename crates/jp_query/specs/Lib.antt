@@ -11,6 +11,7 @@ pub mod Joins
 pub mod Layers
 pub mod Meaning
 pub mod Mentions
+pub mod NoRight
 pub mod Nullness
 pub mod Operators
 pub mod Ordering

@@ -224,19 +224,15 @@ impl Query {
 fn boxed<T: Drop>(alloc: Global, value: T) -> Result<Boxed<T>, Memory>
     ensures { IfOk result (λ b. b ≡ value) }
 {
-    match Boxed::new(alloc, value) {
-        Ok(b) => Ok(b),
-        Err(_) => Err(Memory),
-    }
+    let b = Boxed::new(alloc, value)?;
+    Ok(b)
 }
 
 fn push<T: Drop>(list: &mut Items<T>, item: T) -> Result<(), Memory>
     ensures { OnOk result (list.new ≡ list.old ++ item ∷ []) }
 {
-    match list.push(item) {
-        Ok(()) => Ok(()),
-        Err(_) => Err(Memory),
-    }
+    list.push(item)?;
+    Ok(())
 }
 
 #[cycle(copy)]

@@ -1,18 +1,20 @@
 -- Lists of conditions that reject nulls, and what is present where a list holds.
-use Rattle.std.proofs.Common.{◌≡◌, ◌∙◌, ap, sym, subst, refl, ℕ, zero, suc, ◌+◌, ◌<◌, ◌⊎◌, inl, inr, Bool, true, false, ◌&&◌, ◌||◌, List, [], ◌∷◌, map, fold, Option, Some, None, arith}
+use Rattle.std.proofs.Common.{◌≡◌, ◌∙◌, sym, subst, refl, ℕ, ◌<◌, ◌⊎◌, inl, inr, Bool, true, false, List, [], ◌∷◌, map, fold, Option, Some, None, arith}
 use Rattle.std.specs.Prelude.{bit_or, is_some, if◌then◌else◌}
-use Rattle.std.specs.List.{list_any, list_all, range_with_len}
-use Rattle.std.proofs.lemmas.Bool.{false≢true, true≢false, and_left, and_right, cases_Bool, cases_eq}
-use Rattle.std.proofs.lemmas.Nat.Bits.{bit_at-zero, bit_at-pow_other}
+use Rattle.std.specs.List.{range_with_len}
+use Rattle.std.proofs.lemmas.Bool.{true≢false, and_left, and_right, cases_eq}
+use Rattle.std.proofs.lemmas.Nat.Bits.{bit_at-zero, bit_at-pow_other, bit_at-pow_same}
 use Rattle.jp_base.specs.Sets.{Has}
 use Rattle.jp_base.specs.declared.values.Ty.TheVariants as ty
 use Rattle.jp_base.proofs.SetLemmas.{has_or}
+use Rattle.jp_base.proofs.MaskAlgebra.{has_none}
 use Rattle.jp_query.specs.declared.Expr.{Expr}
-use Rattle.jp_query.specs.Meaning.{Row, Env, ValueIn, SublinkRows, holds, is_true_at}
+use Rattle.jp_query.specs.Meaning.{Row, Env, SublinkRows, holds, is_true_at}
 use Rattle.jp_query.specs.Nullness.{Gone, is_rejecting, rejects, rejects_relation, rejected, nonnull_items}
-use Rattle.jp_query.specs.Refs.{only, union}
+use Rattle.jp_query.specs.Refs.{only}
 use Rattle.jp_query.specs.Typing.{is_of, are_conditions, type_of}
 use Rattle.jp_strict.specs.Absence.{IsGoneIn}
+use Rattle.jp_strict.proofs.SharedSets.{in_range, only_range}
 use Rattle.jp_strict.proofs.SoundTests.{val_of, tests_sound, either, left_of, right_of, of_typed, never}
 
 module _ (gone : Gone) (env : Env) (is_so : IsGoneIn gone env) (subs : SublinkRows) (tables : ℕ → List Row) where
@@ -37,6 +39,13 @@ one_rejected conds rel i h = by (rejects_relation conds rel) refl h
     by true e p = subst (λ j. rejects_relation conds j ≡ true) (sym (has_only rel i p)) e
     by false e p = absurd (omega (arith, bit_at-zero i, p))
 
+rejected_only : (conds : List Expr) (rel i : ℕ) → Has (rejected conds rel) i → i ≡ rel
+rejected_only conds rel i h = by (rejects_relation conds rel) h
+  where
+    by : (b : Bool) → Has (if b then only rel else 0) i → i ≡ rel
+    by true p = has_only rel i p
+    by false p = absurd (has_none i p)
+
 some_rejected : (conds : List Expr) (set : ℕ) (rels : List ℕ) (i : ℕ) → Has (fold bit_or set (map (rejected conds) rels)) i → Has set i ⊎ (rejects_relation conds i ≡ true)
 some_rejected conds set [] i h = inl h
 some_rejected conds set (rel ∷ rels) i h = elim (some_rejected conds (bit_or set (rejected conds rel)) rels i h) [
@@ -50,6 +59,14 @@ nonnull_rejected conds i h = elim (some_rejected conds 0 (range_with_len 0 64) i
   | inl p ↦ absurd (omega (arith, bit_at-zero i, p))
   | inr q ↦ q
 ]
+
+pub rejected_nonnull : (conds : List Expr) (i : ℕ) → i < 64 → rejects_relation conds i ≡ true → Has (nonnull_items conds) i
+unfolding nonnull_items
+rejected_nonnull conds i low h = in_range (rejected conds) 64 0 0 i (omega arith) (omega (arith, low)) (subst (λ b. Has (if b then only i else 0) i) (sym h) (bit_at-pow_same i))
+
+pub nonnull_low : (conds : List Expr) (i : ℕ) → Has (nonnull_items conds) i → i < 64
+unfolding nonnull_items
+nonnull_low conds i h = only_range (rejected conds) (λ k j p. rejected_only conds k j p) 64 0 0 i (λ p. absurd (has_none i p)) h
 
 module _ (subs : SublinkRows) (tables : ℕ → List Row) (env : Env) (conds : List Expr) where
   pub held_present : are_conditions (map type_of conds) ≡ true → holds (map (val_of subs tables) conds) env ≡ true → (i : ℕ) → Has (nonnull_items conds) i → is_some (env i) ≡ true

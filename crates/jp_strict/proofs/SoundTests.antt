@@ -1,12 +1,11 @@
 -- Where something is gone, a typed expression is as its tests say: NULL, not true or not false.
-use Rattle.std.proofs.Common.{◌≡◌, ◌∙◌, ap, ap₂, sym, subst, subst₂, refl, ℕ, zero, suc, inl, inr, pos, Bool, true, false, ◌&&◌, ◌||◌, List, [], ◌∷◌, map, fold, Option, Some, None}
+use Rattle.std.proofs.Common.{◌≡◌, ◌∙◌, ap, ap₂, sym, subst, subst₂, refl, ℕ, inl, inr, pos, Bool, true, false, ◌&&◌, ◌||◌, List, [], ◌∷◌, map, fold, Some, None}
 use Rattle.std.specs.Prelude.{◌==◌, is_some, nat_lt, bit_and, if◌then◌else◌, ◌^◌}
 use Rattle.std.specs.Int.{bit_at}
 use Rattle.std.specs.List.{list_any, list_all}
 use Rattle.std.proofs.lemmas.Bool.{cases_Bool, false≢true, true≢false, eqb-true}
-use Rattle.jp_base.specs.Sets.{Has}
 use Rattle.jp_base.specs.Truth.{not_of, and_of, or_of}
-use Rattle.jp_base.specs.Values.{is_null as is_null_value, order_of}
+use Rattle.jp_base.specs.Values.{is_null as is_null_value}
 use Rattle.jp_base.specs.declared.truth.Truth.{Truth}
 use Rattle.jp_base.specs.declared.truth.Truth.TheVariants.{True, False, Unknown}
 use Rattle.jp_base.specs.declared.values.Ty.{Ty}
@@ -26,7 +25,7 @@ use Rattle.jp_query.specs.declared.Order.{Order}
 use Rattle.jp_query.specs.declared.Output.{Output}
 use Rattle.jp_query.specs.declared.Query.{Query}
 use Rattle.jp_query.specs.declared.Expr.TheOpen.{Expr-F}
-use Rattle.jp_query.specs.Meaning.{Row, Env, ValueIn, Tuples, SortKey, RowsIn, SublinkRows, cell_in, has, any_present, value_at, term_at, truth_at, first_of, expr_value, tree_tuples, order_key, output_value, query_rows}
+use Rattle.jp_query.specs.Meaning.{Row, Env, ValueIn, Tuples, SortKey, RowsIn, SublinkRows, cell_in, any_present, value_at, term_at, truth_at, first_of, expr_value, tree_tuples, order_key, output_value, query_rows}
 use Rattle.jp_query.specs.Nullness.{Gone, Surely, surely, is_gone, are_gone, is_null, is_not_true, is_not_false, of_literal, of_test, each, expr_surely, surely_of}
 use Rattle.jp_query.specs.Operators.{value_of_truth, truth_of_value, is_true, is_false, all_of, any_of, compared, between, among, passes, negated, plus, times, joined, signed, first_value}
 use Rattle.jp_query.specs.Parts.{term_part}
@@ -346,7 +345,7 @@ pub of_typed : (t : Ty) (o : Typed) → is_of t o ≡ true → IsTyped o
 of_typed t (Some u) h = refl
 of_typed t None h = never h
 
-when_typed : (b : Bool) (t : Ty) → IsTyped (typed_if b t) → b ≡ true
+pub when_typed : (b : Bool) (t : Ty) → IsTyped (typed_if b t) → b ≡ true
 when_typed true t h = refl
 when_typed false t h = never h
 

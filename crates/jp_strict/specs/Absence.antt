@@ -1,5 +1,5 @@
 -- Environments in which something is gone.
-use Rattle.std.specs.Prelude.{◌≡◌, ℕ, List, [], ◌∷◌, map, true, None, is_some}
+use Rattle.std.specs.Prelude.{◌≡◌, ℕ, None}
 use Rattle.jp_base.specs.Sets.{Has}
 use Rattle.jp_base.specs.declared.values.Value.TheVariants as value
 use Rattle.jp_query.specs.Meaning.{Env, cell_in}

@@ -1,1 +1,3 @@
 pub mod Absence
+pub mod Cases
+pub mod Cells

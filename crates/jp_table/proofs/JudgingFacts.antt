@@ -1,5 +1,6 @@
 -- A file judged in two passes is judged as its definition says.
 use Rattle.std.proofs.Common.{◌≡◌, ◌≤◌, ◌<◌, ◌+◌, ℕ, zero, suc, Bool, true, false, cond, List, [], ◌∷◌, ◌++◌, length, get_or, take, drop, Option, Some, None, Ok, Err, refl, sym, ap, ap₂, ◌∙◌, arith, add-one, append_assoc, lt-ltb, ltb-true}
+use Rattle.std.proofs.Math.Seq.{take-suc}
 use Rattle.std.proofs.lemmas.List.{append-nil, drop_all, length-append}
 use Rattle.std.proofs.lemmas.List.Elements.{filter-append}
 use Rattle.std.specs.List.{filter, list_any, position}
@@ -160,12 +161,7 @@ keys_first keys rows =
 kind_more : (b : Bool) (keys : List Key) (i : ℕ) (key : Key) → i < length keys → key ≡ get_or keys i key
     → filter (is_kind b) (take (i + 1) keys) ≡ filter (is_kind b) (take i keys) ++ cond (is_kind b key) (key ∷ []) []
 kind_more b keys i key h at =
-    rw add-one (ap (filter (is_kind b)) (taken keys i h at) ∙ filter-append (is_kind b) (take i keys) (key ∷ []))
-  where
-    taken : (keys : List Key) (i : ℕ) → i < length keys → key ≡ get_or keys i key → take (suc i) keys ≡ take i keys ++ key ∷ []
-    taken [] i h at = absurd (omega arith)
-    taken (k ∷ ks) zero h at = ap (λ (x : Key). x ∷ []) (sym at)
-    taken (k ∷ ks) (suc i) h at = ap (λ (rest : List Key). k ∷ rest) (taken ks i (omega arith) at)
+    rw add-one (ap (filter (is_kind b)) (take-suc keys i key h ∙ ap (λ (k : Key). take i keys ++ k ∷ []) (sym at)) ∙ filter-append (is_kind b) (take i keys) (key ∷ []))
 
 pub kind_taken : (b : Bool) (keys : List Key) (i : ℕ) (key : Key) (rows : List Row) → i < length keys → key ≡ get_or keys i key → is_kind b key ≡ true
     → sooner (first_refusal (no_repeat (filter (is_kind b) (take i keys))) [] rows) (first_refusal (no_repeat (key ∷ [])) [] rows) ≡ first_refusal (no_repeat (filter (is_kind b) (take (i + 1) keys))) [] rows

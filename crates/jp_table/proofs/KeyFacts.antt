@@ -1,17 +1,14 @@
 -- The keys of a table that was loaded hold.
-use Rattle.std.proofs.Common.{◌≡◌, ◌≢◌, ◌≤◌, ◌<◌, ◌+◌, ℕ, zero, suc, Bool, true, false, ◌||◌, List, [], ◌∷◌, ◌++◌, length, get_or, take, map, Option, Some, None, Ok, Err, refl, sym, ap, ◌∙◌, arith}
+use Rattle.std.proofs.Common.{◌≡◌, ◌≢◌, ◌≤◌, ◌<◌, ◌+◌, ℕ, zero, suc, Bool, true, false, List, [], ◌∷◌, ◌++◌, length, get_or, take, map, Option, Some, None, Ok, Err, inl, inr, refl, sym, ◌∙◌, arith}
 use Rattle.std.proofs.Math.Logic.{⊎_elim}
-use Rattle.std.proofs.lemmas.Bool.{cases_lt, false≢true, ltb-false}
-use Rattle.std.proofs.lemmas.List.{length-take}
+use Rattle.std.proofs.lemmas.Bool.{cases_lt, false≢true, ltb-false, or_parts}
+use Rattle.std.proofs.lemmas.List.{length-take, get_or-take}
 use Rattle.std.proofs.lemmas.List.Sums.{fails_before_first}
-use Rattle.std.proofs.lemmas.Map.Lookups.{exact_bytes, exact_signed}
-use Rattle.std.specs.Cmp.Lexicographic.{pointwise, slice_cmp}
+use Rattle.std.specs.Cmp.Lexicographic.{pointwise}
 use Rattle.std.specs.List.{filter, list_any, position, position_or_len}
-use Rattle.std.specs.Ordering.{bool_cmp, int_cmp, is_eq, nat_cmp}
 use Rattle.std.specs.Prelude.{All, IfOk, nat_lt}
-use Rattle.std.specs.declared.cmp.Ordering.{Ordering}
-use Rattle.std.specs.declared.cmp.Ordering.TheVariants.{Less, Equal, Greater}
 use Rattle.jp_base.specs.Values.{are_equal, is_null}
+use Rattle.jp_base.proofs.ValueOrder.{equal_is}
 use Rattle.jp_base.specs.declared.values.Value.{Value}
 use Rattle.jp_base.specs.declared.values.Value.TheVariants as value
 use Rattle.jp_catalog.specs.declared.types.Key.{Key}
@@ -27,33 +24,6 @@ Row = List Value
 
 -- ---- equal values
 
-equal_order : (o : Ordering) → is_eq o ≡ true → o ≡ Equal
-equal_order Less e = absurd (false≢true e)
-equal_order Equal e = refl
-equal_order Greater e = absurd (false≢true e)
-
-exact_truth : (a b : Bool) → bool_cmp a b ≡ Equal → a ≡ b
-exact_truth true true e = refl
-exact_truth false false e = refl
-exact_truth true false e = absurd (let never = e in cc)
-exact_truth false true e = absurd (let never = e in cc)
-
--- values that are equal are one
-pub equal_is : (a b : Value) → are_equal a b ≡ true → a ≡ b
-equal_is (value.Num a) (value.Num b) e = ap value.Num (exact_signed a b (equal_order (int_cmp a b) e))
-equal_is (value.Bool a) (value.Bool b) e = ap value.Bool (exact_truth a b (equal_order (bool_cmp a b) e))
-equal_is (value.Text a) (value.Text b) e = ap value.Text (exact_bytes a b (equal_order (slice_cmp nat_cmp a b) e))
-equal_is value.Null b e = absurd (false≢true e)
-equal_is (value.Num a) value.Null e = absurd (false≢true e)
-equal_is (value.Num a) (value.Bool b) e = absurd (false≢true e)
-equal_is (value.Num a) (value.Text b) e = absurd (false≢true e)
-equal_is (value.Bool a) value.Null e = absurd (false≢true e)
-equal_is (value.Bool a) (value.Num b) e = absurd (false≢true e)
-equal_is (value.Bool a) (value.Text b) e = absurd (false≢true e)
-equal_is (value.Text a) value.Null e = absurd (false≢true e)
-equal_is (value.Text a) (value.Num b) e = absurd (false≢true e)
-equal_is (value.Text a) (value.Bool b) e = absurd (false≢true e)
-
 turned : (a b : Value) → are_equal a b ≡ true → are_equal b a ≡ true
 turned a b e = let same : a ≡ b = equal_is a b e in rw (← same) (rw (← same) at e)
 
@@ -61,11 +31,6 @@ agree_turned : (key : Key) (a b : Row) → AgreeIn key a b → AgreeIn key b a
 agree_turned key a b h = λ (k d : ℕ) l. turned (get_or a (get_or key.columns k d) value.Null) (get_or b (get_or key.columns k d) value.Null) (h k d l)
 
 -- ---- what the checks of a row say when they pass
-
-or_parts : (a b : Bool) → (a || b) ≡ false → (a ≡ false) × (b ≡ false)
-or_parts false false e = (refl, refl)
-or_parts false true e = absurd (let never = e in cc)
-or_parts true b e = absurd (let never = e in cc)
 
 none_null : (key : Key) (row : Row) → has_null row key ≡ false → HasNoNull key row
 none_null key row e = λ (k d : ℕ) l. at key.columns e k d l
@@ -164,20 +129,13 @@ get_default [] k c d l = absurd (omega arith)
 get_default (x ∷ xs) zero c d l = refl
 get_default (x ∷ xs) (suc k) c d l = get_default xs k c d (omega arith)
 
-get_taken : {X : Type 0} (xs : List X) (m n : ℕ) (d : X) → m < n → get_or (take n xs) m d ≡ get_or xs m d
-get_taken [] m zero d l = absurd (omega arith)
-get_taken [] m (suc n) d l = refl
-get_taken (x ∷ xs) m zero d l = absurd (omega arith)
-get_taken (x ∷ xs) zero (suc n) d l = refl
-get_taken (x ∷ xs) (suc m) (suc n) d l = get_taken xs m n d (omega arith)
-
 later_new : (keys : List Key) (rows : List Row) (k : ℕ) (key : Key) (m n : ℕ) → first_refusal (keys_hold keys) [] rows ≡ None → k < length keys → m < n → n < length rows
     → ¬ AgreeIn (get_or keys k key) (get_or rows m []) (get_or rows n [])
 later_new keys rows k key m n e lk lm ln same =
     let new = new_all (length (take n rows) + 1) keys (take n rows) (get_or rows n []) k key (row_judged keys rows n e ln).1 lk in
     let few : m < length (take n rows) = omega (arith, length-take n rows) in
     let other : repeats (get_or keys k key) (get_or rows n []) (get_or (take n rows) m []) ≡ false = none_passes (repeats (get_or keys k key) (get_or rows n [])) (take n rows) m [] new few in
-    let here : get_or (take n rows) m [] ≡ get_or rows m [] = get_taken rows m n [] lm in
+    let here : get_or (take n rows) m [] ≡ get_or rows m [] = get_or-take n rows m [] lm in
     let again : repeats (get_or keys k key) (get_or rows n []) (get_or rows m []) ≡ true = agree_repeats (get_or keys k key) (get_or rows m []) (get_or rows n []) same in
     false≢true (sym (rw here at other) ∙ again)
 
@@ -198,7 +156,8 @@ keys_kept def rows e = record { no_null = null_at; distinct = repeat_at }
 -- what holds of the rows of an accepted table
 pub accepted : (def : TableDef) (pass : Pass) (answer : Judged (List Row)) → All (IsRowOf (column_types def)) pass.0 → Agrees answer (after_keys (first_refusal (keys_hold def.keys) [] pass.0) pass)
     → IfOk answer (λ rows. All (IsRowOf (column_types def)) rows) × IfOk answer (KeysHold def)
-accepted def pass (Ok rows) fits e =
-    let kept = rows_kept (first_refusal (keys_hold def.keys) [] pass.0) pass rows e in
+accepted def pass (Ok rows) fits (inl e) = cc
+accepted def pass (Ok rows) fits (inr e) =
+    let kept = rows_kept (first_refusal (keys_hold def.keys) [] pass.0) pass rows (sym e) in
     (rw (← kept.1) fits, rw (← kept.1) (keys_kept def pass.0 kept.0))
 accepted def pass (Err refusal) fits e = (tt, tt)

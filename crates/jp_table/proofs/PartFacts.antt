@@ -1,7 +1,8 @@
 -- The rows that repeat a row in a key, by the values of the key.
-use Rattle.std.proofs.Common.{◌≡◌, ◌≤◌, ◌<◌, ◌+◌, ℕ, zero, suc, Bool, true, false, cond, ◌&&◌, eqb-true, eqb, List, [], ◌∷◌, ◌++◌, length, get_or, take, drop, map, Some, None, Ok, Vec, Global, refl, sym, ap, ap₂, ◌∙◌, arith, add-one, lt-ltb}
+use Rattle.std.proofs.Common.{◌≡◌, ◌≤◌, ◌<◌, ◌+◌, ℕ, Bool, true, false, cond, ◌&&◌, eqb-true, eqb, List, [], ◌∷◌, ◌++◌, length, get_or, take, drop, map, Some, None, Ok, Vec, Global, refl, sym, ap, ap₂, ◌∙◌, arith, add-one, lt-ltb}
 use Rattle.std.proofs.lemmas.Bool.{eqb-false, false≢true, le-ltb}
 use Rattle.std.proofs.lemmas.List.{length-append, length-take-le}
+use Rattle.std.proofs.Math.Seq.{take-suc}
 use Rattle.std.proofs.lemmas.List.Folds.{position_or_len_push}
 use Rattle.std.proofs.lemmas.List.Quantifiers.{position-Some}
 use Rattle.std.proofs.lemmas.List.Sums.{position_or_len_is, prefix_len-le-length}
@@ -10,6 +11,7 @@ use Rattle.std.specs.Cmp.Lexicographic.{pointwise}
 use Rattle.std.specs.List.{list_any, position, position_or_len}
 use Rattle.std.specs.Prelude.{not}
 use Rattle.jp_base.specs.Values.{are_equal, is_null}
+use Rattle.jp_base.proofs.ValueOrder.{equal_is}
 use Rattle.jp_base.specs.declared.values.Value.{Value}
 use Rattle.jp_base.specs.declared.values.Value.TheVariants as value
 use Rattle.jp_catalog.specs.declared.types.Key.{Key}
@@ -21,7 +23,6 @@ use Rattle.jp_table.specs.declared.part.Part.{Part}
 use Rattle.jp_table.specs.declared.part.Part.TheVariants as part
 use Rattle.jp_table.specs.declared.error.TableError.TheVariants as error
 use Rattle.jp_table.proofs.JudgingFacts.{row_passed, row_refused}
-use Rattle.jp_table.proofs.KeyFacts.{equal_is}
 
 abbrev Row : Type 0
 Row = List Value
@@ -139,12 +140,7 @@ none_place p rows h =
 -- ---- a row more
 
 taken : (rows : List Row) (n : ℕ) → n < length rows → take (n + 1) rows ≡ take n rows ++ get_or rows n [] ∷ []
-taken rows n h = rw add-one (at rows n h)
-  where
-    at : (rows : List Row) (n : ℕ) → n < length rows → take (suc n) rows ≡ take n rows ++ get_or rows n [] ∷ []
-    at [] n h = absurd (omega arith)
-    at (r ∷ rs) zero h = refl
-    at (r ∷ rs) (suc n) h = ap (λ (xs : List Row). r ∷ xs) (at rs n (omega arith))
+taken rows n h = rw add-one (take-suc rows n [] h)
 
 -- a row with a NULL in the key has no values of a key
 pub null_seen : (key : Key) (rows : List Row) (n : ℕ) (parts : List Part) → n < length rows → has_null (get_or rows n []) key ≡ true

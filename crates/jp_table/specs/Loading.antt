@@ -1,5 +1,5 @@
 -- What the bytes of a data file say of the table: its rows, or the first refusal in the order of checks.
-use Rattle.std.specs.Prelude.{◌≡◌, ◌==◌, if◌then◌else◌, not, ℕ, ◌+◌, Bool, List, [], ◌∷◌, ◌++◌, length, map, filter, position, Option, Some, None, Result, Ok, Err}
+use Rattle.std.specs.Prelude.{◌==◌, if◌then◌else◌, not, ℕ, ◌+◌, Bool, List, [], ◌∷◌, ◌++◌, length, map, filter, position, Option, Some, None, Result, Ok, Err}
 use Rattle.std.specs.Cmp.Lexicographic.{pointwise}
 use Rattle.std.specs.List.{list_any, slice_index_or}
 use Rattle.std.specs.Str.{bytes_eq}
@@ -7,6 +7,7 @@ use Rattle.csv.specs.Reading.{default_config, records, strip_bom}
 use Rattle.jp_base.specs.Values.{are_equal, is_null}
 use Rattle.jp_base.specs.declared.values.Value.{Value}
 use Rattle.jp_base.specs.declared.values.Value.TheVariants as value
+use Rattle.jp_base.specs.Answers.{OrMemory}
 use Rattle.jp_base.specs.declared.values.Ty.{Ty}
 use Rattle.jp_base.specs.declared.values.Ty.TheVariants as ty
 use Rattle.jp_catalog.specs.declared.types.Key.{Key}
@@ -21,9 +22,7 @@ Judged A = Result A TableError
 
 -- what `load` answers is what is defined, or want of memory
 abbrev pub Agrees : Judged (List (List Value)) → Judged (List (List Value)) → Type 0
-Agrees (Ok rows) defined = defined ≡ Ok rows
-Agrees (Err error.Memory) defined = Unit {0}
-Agrees (Err refusal) defined = defined ≡ Err refusal
+Agrees answer defined = OrMemory error.Memory defined answer
 
 -- one check after the other: the first refusal is the answer
 infixl 10 ◌>>=◌

@@ -134,10 +134,8 @@ fn push_number(numbers: &mut Vec<Option<i64>>, field: &[u8]) -> Result<bool, Mem
     let Some(number) = read_number(field) else {
         return Ok(false);
     };
-    match numbers.push(number) {
-        Ok(()) => Ok(true),
-        Err(_) => Err(Memory),
-    }
+    numbers.push(number)?;
+    Ok(true)
 }
 
 fn push_truth(truths: &mut Vec<Option<bool>>, field: &[u8]) -> Result<bool, Memory>
@@ -146,10 +144,8 @@ fn push_truth(truths: &mut Vec<Option<bool>>, field: &[u8]) -> Result<bool, Memo
     let Some(truth) = read_truth(field) else {
         return Ok(false);
     };
-    match truths.push(truth) {
-        Ok(()) => Ok(true),
-        Err(_) => Err(Memory),
-    }
+    truths.push(truth)?;
+    Ok(true)
 }
 
 fn push_text(texts: &mut Texts, field: &[u8]) -> Result<bool, Memory>

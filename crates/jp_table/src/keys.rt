@@ -164,17 +164,11 @@ fn parts_of<'t>(
         (λ parts. map value_of_part parts.items ≡ key_values key.now (slice_index_or table.now row []))) }
 {
     let columns = key.columns.as_slice();
-    let mut parts = match Vec::with_capacity(alloc, columns.len()) {
-        Ok(parts) => parts,
-        Err(_) => return Err(Memory),
-    };
+    let mut parts = Vec::with_capacity(alloc, columns.len())?;
     'columns: for i in 0..columns.len() {
         match part_of(table.cell(row, columns[i])) {
             None => return Ok(None),
-            Some(part) => match parts.push(part) {
-                Ok(()) => {}
-                Err(_) => return Err(Memory),
-            },
+            Some(part) => parts.push(part)?,
         }
     }
     Ok(Some(parts))

@@ -48,10 +48,7 @@ fn empty_columns(alloc: Global, columns: &Columns) -> Result<Vec<Column>, Memory
 {
     let mut made = Vec::new(alloc);
     for i in 0..columns.len() {
-        match made.push(empty_column(alloc, columns, i)) {
-            Ok(()) => {}
-            Err(_) => return Err(Memory),
-        }
+        made.push(empty_column(alloc, columns, i))?;
     }
     Ok(made)
 }

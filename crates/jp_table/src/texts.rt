@@ -58,10 +58,8 @@ impl Texts {
     pub(crate) fn push_null(&mut self) -> Result<(), Memory>
         ensures { OnOk result (self.new ≡ self.old ++ value.Null ∷ []) }
     {
-        match self.places.push(None) {
-            Ok(()) => Ok(()),
-            Err(_) => Err(Memory),
-        }
+        self.places.push(None)?;
+        Ok(())
     }
 
     /// The cell of a row.

@@ -2,8 +2,8 @@ use Rattle.std.proofs.Common.{ℕ, ◌<◌}
 use Rattle.std.specs.Prelude.{◌↔◌, IsSome}
 use Rattle.jp_base.specs.Sets.{Has}
 use Rattle.jp_query.specs.Tables.{TableRows}
-use Rattle.jp_naive.specs.Tuples.{env_of}
+use Rattle.jp_naive.specs.Frames.{place_env}
 use Rattle.jp_naive.proofs.env.relations.Given as goal
 
-abbrev pub invariant-loop-rel : goal.invariant-loop-rel
-invariant-loop-rel l = (tables : TableRows) (i : ℕ) → Has l.present i ↔ ((i < l.rel) × IsSome (env_of tables l.tuple.leaves.now l.tuple.rows.now i))
+abbrev pub invariant-relations : goal.invariant-relations
+invariant-relations l = (tables : TableRows) (i : ℕ) → Has l.present i ↔ ((i < l.rel) × IsSome (place_env tables l.place i))

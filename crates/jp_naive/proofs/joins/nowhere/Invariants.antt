@@ -1,6 +1,6 @@
-use Rattle.std.proofs.Common.{◌≡◌, ◌++◌, drop, map}
-use Rattle.jp_naive.specs.Tuples.{absent}
+use Rattle.std.proofs.Common.{◌≡◌}
+use Rattle.jp_naive.specs.Joining.{absent}
 use Rattle.jp_naive.proofs.joins.nowhere.Given as goal
 
-abbrev pub invariant-loop : goal.invariant-loop
-invariant-loop l = l.list.items ++ map absent (drop l.index l.leaves) ≡ map absent l.leaves
+abbrev pub invariant-leaves : goal.invariant-leaves
+invariant-leaves l = l.list.items ≡ absent l.counter

@@ -1,0 +1,5 @@
+pub mod CoreLaws
+pub mod ItemLaws
+pub mod PickLaws
+pub mod RangeLaws
+pub mod RoundLaws

@@ -1,0 +1,10 @@
+use Rattle.std.proofs.Common.{◌≡◌, ◌++◌, map, length, reverse}
+use Rattle.jp_query.specs.Parts.{all_in}
+use Rattle.jp_folding.specs.Folding as folding
+use Rattle.jp_fold.proofs.connectives.disjuncts.Given as goal
+
+abbrev pub invariant-members : goal.invariant-members
+invariant-members l = l.out ++ all_in (map folding.or_members (reverse l.rest)) ≡ all_in (map folding.or_members l.fn.members)
+
+abbrev pub decreases-members : goal.decreases-members
+decreases-members l = length l.rest

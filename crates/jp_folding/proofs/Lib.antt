@@ -1,0 +1,10 @@
+pub mod FineDown
+pub mod FoldingLaws
+pub mod LevelValues
+pub mod ListsKept
+pub mod NoRightLaws
+pub mod OwnKept
+pub mod RowsKept
+pub mod Runs
+pub mod TypeLaws
+pub mod TypedDown

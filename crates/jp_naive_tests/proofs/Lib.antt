@@ -1,0 +1,2 @@
+pub mod QueryFacts
+pub mod TableFacts

@@ -1,0 +1,4 @@
+pub mod FirstFacts
+pub mod KeyFacts
+pub mod PartFacts
+pub mod SortFacts

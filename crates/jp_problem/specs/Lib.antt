@@ -1,0 +1,17 @@
+pub mod Blocks
+pub mod Classes
+pub mod Closure
+pub mod Conditions
+pub mod Equalities
+pub mod Examples
+pub mod InnerBlocks
+pub mod Keys
+pub mod Legal
+pub mod Made
+pub mod LegalTests
+pub mod MinimumSets
+pub mod Problems
+pub mod Sets
+pub mod Shapes
+pub mod StepClauses
+pub mod Trees

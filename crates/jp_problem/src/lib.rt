@@ -1,0 +1,19 @@
+//! The join problem of a query block: its items, its special joins with the least sets of items that each needs, its
+//! clauses and its classes of equal expressions; and which orders of its joins are legal.
+#![tactic(auto)]
+
+mod closing;
+mod examples;
+mod joinable;
+pub mod sets;
+mod steps;
+mod types;
+
+pub use closing::{both_sets, closure, closures_are_least, requirement, stands_in, taken_by_right};
+pub use examples::{worked_joinable_sets, worked_minimum_sets};
+pub use joinable::{is_joinable, is_left};
+pub use steps::step_kind;
+pub use types::{
+    Class, Clause, Item, ItemKind, Method, Outline, Place, Placed, Problem, Rule, Special, Step,
+    StepClauses, Written,
+};

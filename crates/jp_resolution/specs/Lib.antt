@@ -1,0 +1,9 @@
+pub mod Answers
+pub mod Counting
+pub mod Examples
+pub mod Layers
+pub mod Names
+pub mod Ordering
+pub mod Resolving
+pub mod Schemas
+pub mod Types

@@ -1,0 +1,11 @@
+use Rattle.std.proofs.Common.{◌∙◌, ap}
+use Rattle.jp_query.specs.Meaning.{has}
+use Rattle.jp_query.specs.Nullness as nullness
+use Rattle.jp_query.specs.Nullness.{Gone}
+use Rattle.jp_strict.specs.declared.absence.Surely.{Surely}
+use Rattle.jp_strict.proofs.CasesAt.{relations_told, alone_rejects}
+use Rattle.jp_strict.proofs.SharedSets.{is_member}
+use Rattle.jp_strict.proofs.nullness.rejects_null.Goals as goal
+
+pub returns : goal.returns
+returns c = alone_rejects (Gone.relations c.args.gone) c.args.expr.now c.has.result (is_member c.surely-tests.result.not_true 0 c.has.result c.has.ensures ∙ ap (λ (s : Surely). has s.not_true 0) c.surely-tests.ensures ∙ ap (λ (s : nullness.Surely). s.not_true) (relations_told c.args.gone c.args.expr.now))
