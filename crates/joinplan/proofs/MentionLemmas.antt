@@ -16,7 +16,7 @@ use Rattle.jp_query.specs.declared.Expr.TheFolds.{map-Expr, map-JoinTree, ind-Ex
 use Rattle.jp_query.specs.Conditions.{all_true}
 use Rattle.jp_query.specs.Parts.{all_in, gathered, gathered_in_tree, gathered_in_query, nothing_of_node, base_table, expr_gives, tree_gives, order_gives, output_gives, query_gives, tables_in}
 use Rattle.jp_query.proofs.FoldLaws as laws
-use Rattle.jp_query.specs.Evaluable.{evaluable_level, tree_built, order_built, output_built, query_built, expr_is_built, tree_is_built, IsBuilt, is_none}
+use Rattle.jp_resolve.specs.Evaluable.{evaluable_level, tree_built, order_built, output_built, query_built, expr_is_built, tree_is_built, IsBuilt, is_none}
 use Rattle.joinplan.specs.Mentions.{mentioned, mentioned_at, nothing, same}
 
 flat_map-map : {X : Type 0} (f : X → List ℕ) (xs : List X) → flat_map same (map f xs) ≡ flat_map f xs

@@ -2,7 +2,7 @@ ghost use Rattle.std.specs.Prelude.{◌≡◌, ◌≢◌, ◌⊎◌, [], Err, If
 ghost use Rattle.jp_catalog.specs.Sound.{IsSound};
 ghost use Rattle.jp_io.specs.Files.{NoneFalls};
 ghost use Rattle.jp_query.specs.Tables.{AllLoaded, IsTypedOver};
-ghost use Rattle.jp_query.specs.Evaluable.{IsBuilt};
+ghost use Rattle.jp_resolve.specs.Evaluable.{IsBuilt};
 ghost use Rattle.jp_query.specs.Conditions.{IsBounded, IsTyped};
 ghost use Rattle.jp_query.specs.Freshness.{IsFresh};
 ghost use Rattle.jp_resolve.specs.Schemas.{schema_of};

@@ -5,7 +5,7 @@ ghost use Rattle.std.specs.List.{flat_map};
 ghost use Rattle.jp_catalog.specs.Sound.{IsSound};
 ghost use Rattle.jp_io.specs.Files.{NoneFalls};
 ghost use Rattle.jp_query.specs.Tables.{AllLoaded, IsLoaded, Belong};
-ghost use Rattle.jp_query.specs.Evaluable.{IsBuilt};
+ghost use Rattle.jp_resolve.specs.Evaluable.{IsBuilt};
 ghost use Rattle.jp_query.specs.Parts.{tables_in};
 ghost use Rattle.jp_resolve.specs.Schemas.{schema_of};
 ghost use Rattle.joinplan.specs.Answers.{none_loaded, tables_read, with_table};

@@ -14,7 +14,7 @@ use Rattle.jp_base.specs.declared.values.Ty.{Ty}
 use Rattle.jp_catalog.specs.Names.{place_of, value_of, HasDistinctNames}
 use Rattle.jp_catalog.specs.Paths.{field_path, column_path, column_field_path, table_path, unique_path}
 use Rattle.jp_catalog.specs.Reading.{Read, ◌>>=◌, NamedColumn, NamedTable, of_kind, text_read, name_fits, name_new, keys_known, unknown_key, type_read, column_read, columns_after, count_of, entries_read, columns_read, place_read, key_column_read, places_after, names_read, key_read, primary_read, unique_from, unique_read, keys_read, rows_fit, rows_read, table_read, tables_read, version_read, top_tables_read, document_read}
-use Rattle.jp_catalog.specs.Sound.{IsSoundKey, IsSoundTable}
+use Rattle.jp_catalog.specs.Sound.{IsSoundKey, IsSoundTable, IsOfSize}
 use Rattle.jp_catalog.specs.declared.level.Level.TheVariants as level
 use Rattle.jp_catalog.specs.declared.types.Catalog.{Catalog}
 use Rattle.jp_catalog.specs.declared.types.Key.{Key}
@@ -227,6 +227,10 @@ rows_sound path None rows h = cc
 rows_sound path (Some value) rows h =
     let (number, _, k) = bound (of_kind path (as_integer value)) (rows_fit path) rows h in rows_fit_sound path number rows k
 
+-- what is shown of a table that is read
+abbrev pub IsReadTable : TableDef → Type 0
+IsReadTable def = IsSoundTable def × IsOfSize def
+
 -- the checks of a table, from each of them on
 module _ (table : List ℕ) where
   abbrev from_keys : List ℕ → ℕ → Members → List NamedColumn → Read TableDef
@@ -247,7 +251,7 @@ module _ (table : List ℕ) where
   abbrev from_value : Data → Read TableDef
   from_value value = of_kind (table_path table) (as_table value) >>= from_members
 
-  table_sound : (value : Data) (def : TableDef) → table_read table value ≡ Ok def → IsSoundTable def
+  table_sound : (value : Data) (def : TableDef) → table_read table value ≡ Ok def → IsReadTable def
   table_sound value def h =
       let (_, _, h1) = bound (name_fits (table_path table) table) (λ _. from_value value) def h in
       let (fields, _, h2) = bound (of_kind (table_path table) (as_table value)) from_members def h1 in
@@ -260,18 +264,18 @@ module _ (table : List ℕ) where
       let same : made ≡ def = cc in
       let are = columns_read_sound table (get_member (codes "columns") fields) columns read in
       let some : 1 ≤ rows = rows_sound (field_path table (codes "rows")) (get_member (codes "rows") fields) rows stated in
-      subst IsSoundTable {x = made} same (record { rows = some; some = are.1; few = are.2; names = are.0; keys = keys_sound table columns fields keys keyed })
+      subst IsReadTable {x = made} same (record { rows = some; names = are.0; keys = keys_sound table columns fields keys keyed }, record { some = are.1; few = are.2 })
 
-tables_sound : (tables : Members) (defs : List NamedTable) → tables_read tables ≡ Ok defs → All (λ table. IsSoundTable table.1) defs
+tables_sound : (tables : Members) (defs : List NamedTable) → tables_read tables ≡ Ok defs → All (λ table. IsReadTable table.1) defs
 tables_sound no_members defs h =
-    let same : [] ≡ defs = cc in subst (All (λ table. IsSoundTable table.1)) same (All-nil (λ table. IsSoundTable table.1))
+    let same : [] ≡ defs = cc in subst (All (λ table. IsReadTable table.1)) same (All-nil (λ table. IsReadTable table.1))
 tables_sound (member table value more) defs h =
     let (def, read, k) = bound (table_read table value) (λ def. tables_read more >>= (λ tables. Ok ((table, def) ∷ tables))) defs h in
     let (others, rest, last) = bound (tables_read more) (λ tables. Ok ((table, def) ∷ tables)) defs k in
     let same : (table, def) ∷ others ≡ defs = cc in
-    subst (All (λ table. IsSoundTable table.1)) same (All-cons (λ table. IsSoundTable table.1) (table, def) others (table_sound table value def read) (tables_sound more others rest))
+    subst (All (λ table. IsReadTable table.1)) same (All-cons (λ table. IsReadTable table.1) (table, def) others (table_sound table value def read) (tables_sound more others rest))
 
-top_tables_sound : (value : Option Data) (defs : List NamedTable) → top_tables_read value ≡ Ok defs → All (λ table. IsSoundTable table.1) defs
+top_tables_sound : (value : Option Data) (defs : List NamedTable) → top_tables_read value ≡ Ok defs → All (λ table. IsReadTable table.1) defs
 top_tables_sound None defs h = cc
 top_tables_sound (Some value) defs h =
     let (tables, _, k) = bound (of_kind (codes "tables") (as_table value)) tables_read defs h in tables_sound tables defs k
@@ -283,7 +287,7 @@ from_tables top = top_tables_read (get_member (codes "tables") top) >>= (λ tabl
 abbrev from_top : Members → Read Catalog
 from_top top = keys_known (λ key. key) (unknown_key level.Top top) >>= (λ _. from_tables top)
 
-pub document_sound : (top : Option Members) (catalog : Catalog) → document_read top ≡ Ok catalog → All (λ table. IsSoundTable table.1) catalog.tables
+pub document_sound : (top : Option Members) (catalog : Catalog) → document_read top ≡ Ok catalog → All (λ table. IsReadTable table.1) catalog.tables
 document_sound None catalog h = cc
 document_sound (Some top) catalog h =
     let (_, _, h1) = bound (version_read (get_member (codes "version") top)) (λ _. from_top top) catalog h in
@@ -291,4 +295,4 @@ document_sound (Some top) catalog h =
     let (tables, read, h3) = bound (top_tables_read (get_member (codes "tables") top)) (λ tables. Ok (record { tables = tables })) catalog h2 in
     let made : Catalog = record { tables = tables } in
     let same : made ≡ catalog = cc in
-    subst (λ (c : Catalog). All (λ table. IsSoundTable table.1) c.tables) {x = made} same (top_tables_sound (get_member (codes "tables") top) tables read)
+    subst (λ (c : Catalog). All (λ table. IsReadTable table.1) c.tables) {x = made} same (top_tables_sound (get_member (codes "tables") top) tables read)

@@ -14,11 +14,17 @@ pub record IsSoundKey (columns : ℕ) (key : Key) : Type 0 where
 
 pub record IsSoundTable (def : TableDef) : Type 0 where
   pub rows : 1 ≤ def.rows
-  pub some : 1 ≤ length def.columns
-  pub few : length def.columns ≤ 64
   pub names : HasDistinctNames def.columns
   pub keys : All (IsSoundKey (length def.columns)) def.keys
 
 pub record IsSound (catalog : Catalog) : Type 0 where
   pub names : HasDistinctNames catalog.tables
   pub tables : All (λ table. IsSoundTable table.1) catalog.tables
+
+-- a catalogue that is read gives each table from 1 to 64 columns
+pub record IsOfSize (def : TableDef) : Type 0 where
+  pub some : 1 ≤ length def.columns
+  pub few : length def.columns ≤ 64
+
+abbrev pub AreOfSize : Catalog → Type 0
+AreOfSize catalog = All (λ table. IsOfSize table.1) catalog.tables

@@ -3,7 +3,7 @@ ghost use Rattle.std.specs.Option.{option_map};
 ghost use Rattle.std.specs.Str.{is_utf8};
 ghost use Rattle.toml.specs.View.{view, table_view};
 ghost use Rattle.jp_catalog.specs.Names.{HasDistinctNames};
-ghost use Rattle.jp_catalog.specs.Sound.{IsSound};
+ghost use Rattle.jp_catalog.specs.Sound.{IsSound, AreOfSize};
 ghost use Rattle.jp_catalog.specs.Reading.{Agrees, is_version, top_tables_read, document_read, catalogue_of};
 
 use crate::checks::{unknown_key, value_at};
@@ -19,6 +19,7 @@ use toml::{Table, Value};
 pub fn read_catalog(alloc: Global, bytes: &[u8]) -> Result<Catalog, CatalogError>
     ensures agrees { Agrees result (catalogue_of bytes.now) }
     ensures sound { IfOk result IsSound }
+    ensures size { IfOk result AreOfSize }
 {
     let Some(text) = as_text(bytes) else {
         return Err(CatalogError::NotToml);

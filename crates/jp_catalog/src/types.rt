@@ -21,7 +21,7 @@ pub struct TableDef {
     pub file: Txt,
     /// The stated number of rows, from 1 to 4294967295. It feeds the estimates and isn't compared with the file.
     pub rows: u32,
-    /// From 1 to 64 columns.
+    /// The columns; a catalogue that is read gives from 1 to 64.
     pub columns: Columns,
     /// The keys, of which a read catalogue gives the primary key first.
     pub keys: Items<Key>,

@@ -1,5 +1,4 @@
 pub mod Conditions
-pub mod Evaluable
 pub mod Conjuncts
 pub mod Equality
 pub mod Examples

@@ -17,7 +17,7 @@ use Rattle.jp_query.specs.declared.Output.{Output}
 use Rattle.jp_query.specs.declared.Query.{Query}
 use Rattle.jp_query.specs.Conditions.{IsTyped, IsBounded}
 use Rattle.jp_query.specs.Freshness.{IsFresh}
-use Rattle.jp_query.specs.Evaluable.{IsBuilt}
+use Rattle.jp_resolve.specs.Evaluable.{IsBuilt}
 use Rattle.jp_resolve.specs.declared.error.ResolveError.{ResolveError}
 use Rattle.jp_resolve.specs.Names.{Entry, have_distinct_names}
 use Rattle.jp_resolve.specs.Resolving.{Agrees, Meant, Item, Source, OutputOver, output, target_over, outputs_over, where_over, plain_query, source_query, item_query, ast_meant, item_meant, target_meant, select_meant, meant_by, item_of, query_of}

@@ -8,7 +8,7 @@ use Rattle.jp_query.specs.Conditions.{all_true, expr_rooted, tree_rooted, order_
 use Rattle.jp_query.specs.Freshness.{Occurrence, below, from_parts, expr_occurrences, tree_occurrences, order_occurrences, output_occurrences, query_occurrences}
 use Rattle.jp_query.specs.Typing.{is_true_test}
 use Rattle.jp_query.specs.Scopes.{Scope, Schema}
-use Rattle.jp_query.specs.Evaluable.{evaluable_level, tree_built, order_built, output_built, query_built}
+use Rattle.jp_resolve.specs.Evaluable.{evaluable_level, tree_built, order_built, output_built, query_built}
 use Rattle.jp_resolve.proofs.Plain.{inner_or_left}
 use Rattle.jp_resolve.proofs.Steps.{Each, each_true, ExprSteps, TreeSteps}
 

@@ -17,7 +17,7 @@ use Rattle.jp_query.specs.Freshness.{Occurrence, from_parts, listed_here, expr_o
 use Rattle.jp_query.specs.Parts.{all_in, expr_gives, tree_gives, order_gives, output_gives, query_gives, gathered_in_query, nothing_of_node, nothing_of_leaf, node_placeholder, leaf_number, base_number, base_table}
 use Rattle.jp_query.specs.Refs.{only, union}
 use Rattle.jp_query.specs.Scopes.{Scope, Schema, Column, Entry}
-use Rattle.jp_query.specs.Evaluable.{evaluable_level, tree_built, order_built, output_built, query_built, IsBuilt}
+use Rattle.jp_resolve.specs.Evaluable.{evaluable_level, tree_built, order_built, output_built, query_built, IsBuilt}
 use Rattle.jp_resolve.proofs.Plain.{Numbered, Plains, Joined}
 use Rattle.jp_resolve.proofs.Steps.{Each, each_true}
 use Rattle.jp_resolve.proofs.TypedFacts.{HasType, TreeTyped, same_self, all_booleans, typed_steps, typed_trees}

@@ -1,4 +1,5 @@
 pub mod Answers
+pub mod Evaluable
 pub mod Names
 pub mod Resolving
 pub mod Schemas

@@ -4,7 +4,7 @@
 
 ghost use Rattle.std.specs.Prelude.{[], IfOk};
 ghost use Rattle.jp_catalog.specs.Sound.{IsSound};
-ghost use Rattle.jp_query.specs.Evaluable.{IsBuilt};
+ghost use Rattle.jp_resolve.specs.Evaluable.{IsBuilt};
 ghost use Rattle.jp_query.specs.Conditions.{IsBounded, IsTyped};
 ghost use Rattle.jp_query.specs.Freshness.{IsFresh};
 ghost use Rattle.jp_resolve.specs.Resolving.{Agrees, query_of};

@@ -25,6 +25,7 @@ use std::alloc::Global;
 /// Keys are judged when all records before the first bad one are read.
 pub fn load(alloc: Global, def: &TableDef, bytes: &[u8]) -> Result<Table, TableError>
     requires sound { IsSoundTable def.now }
+    requires numbered { length def.now.columns < 2 ^ 32 }
     ensures table { Agrees result (table_of def.now bytes.now) }
     ensures fits { IfOk result (λ table. All (IsRowOf (column_types def.now)) table) }
     ensures keys { IfOk result (KeysHold def.now) }
@@ -78,7 +79,7 @@ fn load_rows(
     mut columns: Vec<Column>,
 ) -> Result<Loaded, Memory>
     requires few { length records.old < 2 ^ 64 }
-    requires narrow { length columns.items ≤ 64 }
+    requires numbered { length columns.items < 2 ^ 32 }
     requires empty { AllHave 0 columns.items }
     ensures { IfOk result (λ loaded. (loaded.table, loaded.stop) ≡ rows_read (types_of columns.items) 0 records.old) }
 {
@@ -107,7 +108,7 @@ fn push_row(
     fields: &ByteRecord,
     record_no: u64,
 ) -> Result<Option<TableError>, Memory>
-    requires { length columns.old.items ≤ 64 }
+    requires { length columns.old.items < 2 ^ 32 }
     ensures { IfOk result (Pushes (row_read (types_of columns.old.items) record_no (fields_of fields.now)) columns.old.items columns.new.items) }
 {
     if fields.len() != columns.len() {
@@ -123,7 +124,7 @@ fn push_fields(
     fields: &ByteRecord,
     record_no: u64,
 ) -> Result<Option<TableError>, Memory>
-    requires narrow { length columns.old.items ≤ 64 }
+    requires numbered { length columns.old.items < 2 ^ 32 }
     requires one_each { length (fields_of fields.now) ≡ length columns.old.items }
     ensures { IfOk result (Pushes (values_from (types_of columns.old.items) record_no 1 (fields_of fields.now)) columns.old.items columns.new.items) }
 {

@@ -1,5 +1,5 @@
 use Rattle.std.proofs.Common.{[]}
-use Rattle.jp_query.specs.Evaluable.{IsBuilt}
+use Rattle.jp_resolve.specs.Evaluable.{IsBuilt}
 use Rattle.jp_query.specs.Conditions.{IsBounded, IsTyped}
 use Rattle.jp_query.specs.Freshness.{IsFresh}
 use Rattle.jp_resolve.specs.Resolving.{query_of}
