@@ -133,7 +133,8 @@ fn two_keys(alloc: Global) -> Result<Items<Key>, Fail>
 
 /// A table with its unique key before its primary key.
 fn unique_before_primary(alloc: Global) -> Result<TableDef, Fail>
-    ensures { IfOk result IsSoundTable }
+    ensures sound { IfOk result IsSoundTable }
+    ensures columns { IfOk result (λ def. length def.columns ≡ 2) }
 {
     let file = Txt::new(alloc, "f")?;
     let keys = two_keys(alloc)?;

@@ -6,7 +6,6 @@ use Rattle.jp_base.specs.declared.values.Ty.{Ty}
 use Rattle.jp_base.specs.declared.values.Ty.TheVariants as ty
 use Rattle.jp_base.specs.declared.values.Value.{Value}
 use Rattle.jp_base.specs.declared.values.Value.TheVariants as value
-use Rattle.jp_catalog.specs.Sound.{IsSoundTable}
 use Rattle.jp_catalog.specs.declared.types.TableDef.{TableDef}
 use Rattle.jp_query.specs.Meaning.{Row}
 use Rattle.jp_query.specs.Scopes.{Column}
@@ -40,13 +39,13 @@ row_belongs (t ∷ ts) (v ∷ vs) r = (
   row_belongs ts vs (record { width = omega (arith, r.width); values = λ k h. r.values (suc k) (omega arith) }),
 )
 
--- a table of a sound catalogue is sound
-pub table_sound : (tables : List (List ℕ × TableDef)) (place : ℕ) (name : List ℕ) (def : TableDef) → Some (name, def) ≡ slice_get tables place → All (λ table. IsSoundTable table.1) tables → IsSoundTable def
-table_sound [] place name def e h = absurd (let never = e in cc)
-table_sound (t ∷ ts) zero name def e h =
+-- a table of a catalogue is as all of them are
+pub table_is : (P : TableDef → Type 0) (tables : List (List ℕ × TableDef)) (place : ℕ) (name : List ℕ) (def : TableDef) → Some (name, def) ≡ slice_get tables place → All (λ table. P table.1) tables → P def
+table_is P [] place name def e h = absurd (let never = e in cc)
+table_is P (t ∷ ts) zero name def e h =
     let is : (name, def) ≡ t = cc in
-    rw (ap (λ (p : List ℕ × TableDef). p.1) is) (h 0 t (omega arith))
-table_sound (t ∷ ts) (suc place) name def e h = table_sound ts place name def e (λ k d below. h (suc k) d (omega (arith, below)))
+    subst P (sym (ap (λ (p : List ℕ × TableDef). p.1) is)) (h 0 t (omega arith))
+table_is P (t ∷ ts) (suc place) name def e h = table_is P ts place name def e (λ k d below. h (suc k) d (omega (arith, below)))
 
 pub belongs : (tables : TableRows) (one : IsOneTable tables) → Belong (map column one.types ∷ []) tables
 belongs tables one = subst (Belong (map column one.types ∷ [])) (sym one.all) (λ k d h. row_belongs one.types (get_or one.rows k d) (one.fit k d h), tt)

@@ -1,5 +1,5 @@
 ghost use Rattle.std.specs.Prelude.{IfOk};
-ghost use Rattle.jp_catalog.specs.Sound.{IsSound};
+ghost use Rattle.jp_catalog.specs.Sound.{AreOfSize, IsSound};
 ghost use Rattle.jp_naive_tests.specs.Tables.{HasFittingRows, IsOneTable};
 
 use crate::queries::{full_apart, not_in_nothing};
@@ -18,7 +18,8 @@ const A: &[u8] = b"id,x\n1,10\n2,20\n3,\\N\n";
 
 /// The first table of the catalogue, with the file's rows.
 fn first_table(alloc: Global, catalog: &Catalog, file: &[u8]) -> Result<Table, Fail>
-    requires { IsSound catalog.now }
+    requires sound { IsSound catalog.now }
+    requires size { AreOfSize catalog.now }
     ensures { IfOk result HasFittingRows }
 {
     let Some((_, def)) = catalog.tables.get_index(0) else {
