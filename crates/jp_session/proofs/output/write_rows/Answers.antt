@@ -2,10 +2,10 @@ use Rattle.std.proofs.Common.{◌++◌, ◌∙◌, ap, subst, map, ◌≡◌, ta
 use Rattle.std.specs.List.{flat_map}
 use Rattle.csv.specs.Records.{fields_of}
 use Rattle.csv.specs.Writing.{default_writer, row_text}
-use Rattle.joinplan.specs.Output.{field_of, record_text}
-use Rattle.joinplan.specs.Writers.{HasWritten}
-use Rattle.joinplan.proofs.WriterLemmas.{text_more, text_all}
-use Rattle.joinplan.proofs.output.write_rows.Goals as goal
+use Rattle.jp_session.specs.Output.{field_of, record_text}
+use Rattle.jp_session.specs.Writers.{HasWritten}
+use Rattle.jp_session.proofs.WriterLemmas.{text_more, text_all}
+use Rattle.jp_session.proofs.output.write_rows.Goals as goal
 
 pub loop-row-preserved : goal.loop-row-preserved
 loop-row-preserved c = λ text has.

@@ -2,9 +2,8 @@ ghost use Rattle.std.specs.Prelude.{◌≡◌, ℕ, List, [], ◌∷◌, ◌++�
 ghost use Rattle.csv.specs.Records.{fields_of, partial_of};
 ghost use Rattle.csv.specs.Writing.{default_writer, row_text};
 ghost use Rattle.std.specs.List.{flat_map};
-ghost use Rattle.joinplan.specs.Answers.{name_of};
-ghost use Rattle.joinplan.specs.Output.{field_of, output_text, record_text};
-ghost use Rattle.joinplan.specs.Writers.{HasWritten};
+ghost use Rattle.jp_session.specs.Output.{field_of, name_of, output_text, record_text};
+ghost use Rattle.jp_session.specs.Writers.{HasWritten};
 
 use csv::{ByteRecord, Writer, WriterBuilder};
 use itoa::Buffer;
@@ -12,9 +11,10 @@ use jp_base::{Memory, Row, Value};
 use jp_query::Output;
 use std::alloc::Global;
 
-/// The record of the output names, and one record for each row.
-pub fn print_rows(alloc: Global, columns: &[Output], rows: &[Row]) -> Result<Vec<u8>, Memory>
-    ensures { IfOk result (λ v. v.items ≡ output_text (map name_of columns.now) rows.now) }
+/// The text of rows: the record of the output names, and one record for each row, by csv's default writer. A number is
+/// written in decimal digits, a boolean as `t` or `f`; NULL and the text `\N` are both written `\N`. Memory is the only error.
+pub fn output_text(alloc: Global, columns: &[Output], rows: &[Row]) -> Result<Vec<u8>, Memory>
+    ensures { IfOk result (λ v. v.items ≡ output_text columns.now rows.now) }
 {
     let mut writer = WriterBuilder::new()
         .flexible(true)

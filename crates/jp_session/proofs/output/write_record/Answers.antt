@@ -2,8 +2,8 @@ use Rattle.std.proofs.Common.{◌≢◌, ◌++◌, ◌∙◌, ap, ap₂}
 use Rattle.csv.specs.Records.{fields_of}
 use Rattle.csv.specs.Writing.{row_text, writer_setup}
 use Rattle.csv.specs.declared.writer.QuoteStyle.TheVariants as style
-use Rattle.joinplan.proofs.WriterLemmas.{same_row}
-use Rattle.joinplan.proofs.output.write_record.Goals as goal
+use Rattle.jp_session.proofs.WriterLemmas.{same_row}
+use Rattle.jp_session.proofs.output.write_record.Goals as goal
 
 pub returns : goal.returns
 returns c = λ text has.

@@ -1,7 +1,7 @@
 use Rattle.std.proofs.Common.{◌≡◌, [], ◌++◌, map, take}
 use Rattle.csv.specs.Records.{fields_of, partial_of}
-use Rattle.joinplan.specs.Output.{field_of}
-use Rattle.joinplan.proofs.output.push_values.Given as goal
+use Rattle.jp_session.specs.Output.{field_of}
+use Rattle.jp_session.proofs.output.push_values.Given as goal
 
 abbrev pub invariant-loop-value : goal.invariant-loop-value
 invariant-loop-value l = record {

@@ -1,7 +1,7 @@
 use Rattle.std.proofs.Common.{◌≡◌, [], ◌++◌, map, take}
 use Rattle.csv.specs.Records.{fields_of, partial_of}
-use Rattle.joinplan.specs.Answers.{name_of}
-use Rattle.joinplan.proofs.output.push_names.Given as goal
+use Rattle.jp_session.specs.Output.{name_of}
+use Rattle.jp_session.proofs.output.push_names.Given as goal
 
 abbrev pub invariant-loop-column : goal.invariant-loop-column
 invariant-loop-column l = record {
