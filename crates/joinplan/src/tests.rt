@@ -1,4 +1,4 @@
-ghost use Rattle.std.specs.Prelude.{◌≡◌, ◌≤◌, ◌<◌, ◌⊎◌, ◌++◌, ◌-◌, ◌^◌, ℕ, List, [], Ok, length, map, string_bytes, true};
+ghost use Rattle.std.specs.Prelude.{◌≡◌, ◌≤◌, ◌<◌, ◌⊎◌, ◌++◌, ◌-◌, ◌^◌, ℕ, List, [], IfOk, Ok, length, map, string_bytes, true};
 ghost use Rattle.jp_io.specs.MemFiles.{fault_count, is_calm, told_files};
 ghost use Rattle.jp_io.specs.MemSink.{failing_calls, room_left, taken_bytes};
 ghost use Rattle.joinplan.specs.Answers.{answer_of};
@@ -506,6 +506,7 @@ fn check_words(alloc: Global) -> Result<Vec<String>, AllocError> {
 
 fn sink(alloc: Global, piece: usize) -> Result<MemSink, Memory>
     requires { 1 ≤ piece }
+    ensures { IfOk result (λ s. failing_calls s ≡ []) }
 {
     MemSink::new(alloc, piece, 4096, Vec::new(alloc))
 }

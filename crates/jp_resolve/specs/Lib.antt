@@ -1,6 +1,0 @@
-pub mod Answers
-pub mod Evaluable
-pub mod Names
-pub mod Resolving
-pub mod Schemas
-pub mod Views
