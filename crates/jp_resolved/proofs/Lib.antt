@@ -1,0 +1,16 @@
+pub mod Spans
+pub mod Made
+pub mod Answered
+pub mod Rising
+pub mod Seen
+pub mod Found
+pub mod Nodes
+pub mod Operators
+pub mod CaseNodes
+pub mod Parts
+pub mod Conjuncts
+pub mod Selections
+pub mod Sources
+pub mod Targets
+pub mod Selects
+pub mod Walked
