@@ -14,3 +14,4 @@ pub mod Sources
 pub mod Targets
 pub mod Selects
 pub mod Walked
+pub mod Tops

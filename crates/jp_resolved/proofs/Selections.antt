@@ -11,11 +11,13 @@ use Rattle.jp_query.specs.declared.Expr.TheOpen.{Expr-F}
 use Rattle.jp_query.specs.declared.Expr.TheFolds.{fold-Output, fold-Order, fold-roll-Query}
 use Rattle.jp_query.specs.declared.Order.{Order}
 use Rattle.jp_query.specs.declared.Output.{Output, out-Output}
-use Rattle.jp_query.specs.Conditions.{fits}
+use Rattle.jp_query.specs.declared.JoinTree.{JoinTree}
+use Rattle.jp_query.specs.declared.JoinTree.TheVariants as tree
+use Rattle.jp_query.specs.Conditions.{fits, has_distinct_numbers}
 use Rattle.jp_query.specs.Layers.{QueryLayer}
 use Rattle.jp_query.specs.Scopes.{Schema, Scope, BoundIn, EntriesIn, ColumnIn, ColumnsIn, in_scope, expr_bound, tree_entries, order_bound, output_column, query_columns, bound_of, entries_of, columns_of_query}
 use Rattle.jp_query.specs.Scopes as scopes
-use Rattle.jp_query.specs.Typing.{Typed, TypedOutput, TypedQuery, type_of, tree_is_typed, typed_query, typed_if, is_of, is_one_of, are_conditions, output_is_typed, output_type, expr_type, tree_typed, order_typed, output_typed, query_typed}
+use Rattle.jp_query.specs.Typing.{Typed, TypedOutput, TypedQuery, type_of, tree_is_typed, typed_query, typed_if, is_of, is_listed, is_one_of, are_conditions, output_is_typed, output_type, expr_type, tree_typed, order_typed, output_typed, query_typed}
 use Rattle.jp_query.proofs.FoldLaws as laws
 use Rattle.jp_resolution.specs.declared.words.Counts.{Counts}
 use Rattle.jp_resolution.specs.declared.words.Selection.{Selection}
@@ -27,7 +29,7 @@ use Rattle.jp_resolution.specs.Types.{can_be, expr_as, truth}
 use Rattle.jp_induction.proofs.EachPart.{Each}
 use Rattle.jp_resolved.specs.Sorted.{expr_of_output}
 use Rattle.jp_resolved.proofs.Answered.{same_Ok, no_Ok, if_parts}
-use Rattle.jp_resolved.proofs.Made.{MadeExpr, exists, among, MadeSelect}
+use Rattle.jp_resolved.proofs.Made.{MadeExpr, exists, among, MadeExprs, MadeTrees, MadeSelect, select}
 use Rattle.jp_resolved.proofs.Seen.{seen_columns, seen_all, FitsColumn, IsOwn}
 use Rattle.jp_resolved.proofs.Found.{same_self, IsExpr, Found, found_typed}
 
@@ -100,21 +102,30 @@ module _ (schema : Schema) where
 
   -- a select with its types and bounds
   pub record IsSelection (outer : Scope) (a b : Counts) (s : Selection) : Type 0 where
-    pub made : (order : List Order) → MadeSelect schema outer a b (level_of s order)
+    pub middle : Counts
+    pub end : Counts
+    pub members : List JoinTree
+    pub some : is_listed members ≡ true
+    pub tree_is : s.tree ≡ tree.From members []
+    pub apart : has_distinct_numbers (seen_all s.entries ++ outer) ≡ true
+    pub made_outputs : MadeExprs schema (seen_all s.entries ++ outer) a middle (map expr_of_output s.outputs)
+    pub made_trees : MadeTrees schema outer middle end (seen_all s.entries) members
+    pub made_conds : MadeExprs schema (seen_all s.entries ++ outer) end b s.conds
     pub outputs : Each IsTypedOutput s.outputs
     pub columns : map (column_at (seen_all s.entries ++ outer)) s.outputs ≡ seen_columns s.columns
     pub fit : Each FitsColumn (seen_columns s.columns)
-    pub tree : tree_is_typed s.tree ≡ true
+    pub typed : tree_is_typed s.tree ≡ true
     pub entries : entries_of schema s.tree outer ≡ seen_all s.entries
     pub conds : Each IsTypedCondition s.conds
-    pub first : ℕ
-    pub end : ℕ
-    pub low : a.entries ≤ first
-    pub high : end ≤ b.entries
-    pub own : IsOwn first end (seen_all s.entries)
+    pub low : a.entries ≤ middle.entries
+    pub high : end.entries ≤ b.entries
+    pub own : IsOwn middle.entries end.entries (seen_all s.entries)
+
+  pub select_made : (outer : Scope) (a b : Counts) (s : Selection) → IsSelection outer a b s → (order : List Order) → MadeSelect schema outer a b (level_of s order)
+  select_made outer a b s is order = select outer a is.middle is.end b (seen_all s.entries) (level_of s order) is.members is.some is.tree_is is.apart is.made_outputs is.made_trees is.made_conds
 
   pub selection_typed : (outer : Scope) (a b : Counts) (s : Selection) → IsSelection outer a b s → typed_query (query_of s []) ≡ record { is_typed = true; outputs = map type_of_output s.outputs }
-  selection_typed outer a b s is = select_typed s [] is.outputs is.tree is.conds refl
+  selection_typed outer a b s is = select_typed s [] is.outputs is.typed is.conds refl
 
   pub selection_columns : (outer : Scope) (a b : Counts) (s : Selection) → IsSelection outer a b s → columns_of_query schema (query_of s []) outer ≡ seen_columns s.columns
   selection_columns outer a b s is = select_columns outer (seen_all s.entries) s [] is.entries ∙ is.columns
@@ -126,7 +137,7 @@ module _ (schema : Schema) where
 
   exists_made : (scope : Scope) (a b : Counts) (s : Selection) → IsSelection scope (both a one_sublink) b s → IsExpr schema scope a b ty.Boolean 0 (expr.Exists (next_sublink a) (query_of s []))
   exists_made scope a b s is = record {
-    made = exists scope a b (level_of s []) refl (is.made []);
+    made = exists scope a b (level_of s []) refl (select_made scope (both a one_sublink) b s is []);
     type = laws.at-Exists Typed Bool Typed TypedOutput TypedQuery expr_type tree_typed order_typed output_typed query_typed (next_sublink a) (query_of s []) ∙ ap (λ (q : TypedQuery). typed_if q.is_typed ty.Boolean) (selection_typed scope (both a one_sublink) b s is);
     bound = ap (λ (f : BoundIn). f scope) (laws.at-Exists BoundIn EntriesIn BoundIn ColumnIn ColumnsIn expr_bound (tree_entries schema) order_bound output_column query_columns (next_sublink a) (query_of s []));
     fit = fits_zero;
@@ -145,7 +156,7 @@ module _ (schema : Schema) where
       let operand_is = found t can in
       let typed : typed_query (query_of s []) ≡ record { is_typed = true; outputs = t ∷ [] } = selection_typed scope m b s is ∙ ap (λ os. record { is_typed = true; outputs = map type_of_output os }) one in
       record {
-        made = among scope a m b x (level_of s []) refl operand_is.made (is.made []);
+        made = among scope a m b x (level_of s []) refl operand_is.made (select_made scope m b s is []);
         type = laws.at-InSub Typed Bool Typed TypedOutput TypedQuery expr_type tree_typed order_typed output_typed query_typed (next_sublink a) x (query_of s [])
             ∙ ap (λ (q : TypedQuery). typed_if (q.is_typed && is_one_of (type_of x) q.outputs) ty.Boolean) typed
             ∙ ap (λ o. typed_if (is_of t o) ty.Boolean) operand_is.type

@@ -63,15 +63,21 @@ module _ (catalog : Catalog) where
   selection_is : (distinct : Bool) (outer : Scope) (a m n b : Counts) (sources : Sources) (conds : List Expr) (outputs : List Selected) → is_listed sources.trees ≡ true → has_distinct_numbers (seen_all sources.entries ++ outer) ≡ true → a.entries ≤ m.entries → n.entries ≤ b.entries
       → AreSelected schema (seen_all sources.entries ++ outer) a m outputs → AreSources schema outer m n sources.entries sources.trees → AreConditions schema (seen_all sources.entries ++ outer) n b conds → IsSelection schema outer a b (selection distinct sources conds outputs)
   selection_is distinct outer a m n b sources conds outputs some apart low high targets froms where_list = record {
-    made = λ order. select outer a m n b (seen_all sources.entries) (level_of (selection distinct sources conds outputs) order) sources.trees some refl apart targets.made froms.made where_list.0;
+    middle = m;
+    end = n;
+    members = sources.trees;
+    some = some;
+    tree_is = refl;
+    apart = apart;
+    made_outputs = targets.made;
+    made_trees = froms.made;
+    made_conds = where_list.0;
     outputs = targets.types;
     columns = targets.bounds;
     fit = targets.fit;
-    tree = laws.at-From Typed Bool Typed TypedOutput TypedQuery expr_type tree_typed order_typed output_typed query_typed sources.trees [] ∙ and_from (list_all is_true_test (map tree_is_typed sources.trees)) (are_conditions []) froms.typed refl;
+    typed = laws.at-From Typed Bool Typed TypedOutput TypedQuery expr_type tree_typed order_typed output_typed query_typed sources.trees [] ∙ and_from (list_all is_true_test (map tree_is_typed sources.trees)) (are_conditions []) froms.typed refl;
     entries = ap (λ (f : EntriesIn). f outer) (laws.at-From BoundIn EntriesIn BoundIn ColumnIn ColumnsIn expr_bound (tree_entries schema) order_bound output_column query_columns sources.trees []) ∙ froms.sees;
     conds = where_list.1;
-    first = m.entries;
-    end = n.entries;
     low = low;
     high = high;
     own = froms.own;

@@ -37,7 +37,7 @@ use Rattle.jp_resolved.proofs.Rising.{rising_append, rising_wider}
 use Rattle.jp_resolved.proofs.Seen.{seen_column, seen_columns, seen_all, scope_of, FitsColumn, IsSmall, IsOwn, IsOpen, open_inside}
 use Rattle.jp_resolved.proofs.Parts.{IsPlace, place_narrower, Claim, Good}
 use Rattle.jp_resolved.proofs.Conjuncts.{AreConditions}
-use Rattle.jp_resolved.proofs.Selections.{level_of, IsTypedCondition, conditions_are, IsSelection, selection_typed, selection_columns}
+use Rattle.jp_resolved.proofs.Selections.{level_of, IsTypedCondition, conditions_are, IsSelection, select_made, selection_typed, selection_columns}
 
 -- ---- columns of tables
 
@@ -116,7 +116,7 @@ module _ (schema : Schema) where
       let name = leaf_name rel alias in
       let columns = selection_columns schema outer (both a one_entry) b s is in
       record {
-        made = subst (λ cs. MadeTree schema outer a b (record { relation = rel; columns = cs } ∷ []) (tree.Sub rel name (query_of s []))) columns (sub outer a b name (level_of s []) refl distinct (is.made []));
+        made = subst (λ cs. MadeTree schema outer a b (record { relation = rel; columns = cs } ∷ []) (tree.Sub rel name (query_of s []))) columns (sub outer a b name (level_of s []) refl distinct (select_made schema outer (both a one_entry) b s is []));
         typed = laws.at-Sub Typed Bool Typed TypedOutput TypedQuery expr_type tree_typed order_typed output_typed query_typed rel name (query_of s []) ∙ sub_typed rel (typed_query (query_of s [])) low (ap (λ (q : TypedQuery). q.is_typed) (selection_typed schema outer (both a one_entry) b s is));
         entries = ap (λ (f : EntriesIn). f outer) (laws.at-Sub BoundIn EntriesIn BoundIn ColumnIn ColumnsIn expr_bound (tree_entries schema) order_bound output_column query_columns rel name (query_of s [])) ∙ ap (λ cs. record { relation = rel; columns = cs } ∷ []) columns;
         own = record { rising = (self a.entries, omega (arith, less)); small = ((low, is.fit), tt) };
