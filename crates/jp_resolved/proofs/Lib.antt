@@ -15,3 +15,5 @@ pub mod Targets
 pub mod Selects
 pub mod Walked
 pub mod Tops
+pub mod Operands
+pub mod Passing
