@@ -17,3 +17,5 @@ pub mod Walked
 pub mod Tops
 pub mod Operands
 pub mod Passing
+pub mod Gathering
+pub mod Rooted
