@@ -19,3 +19,7 @@ pub mod Operands
 pub mod Passing
 pub mod Gathering
 pub mod Rooted
+pub mod Leaving
+pub mod Finding
+pub mod Standing
+pub mod Paced
