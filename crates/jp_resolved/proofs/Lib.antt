@@ -23,3 +23,5 @@ pub mod Leaving
 pub mod Finding
 pub mod Standing
 pub mod Paced
+pub mod Wholes
+pub mod TypedTops

@@ -118,6 +118,7 @@ module _ (schema : Schema) where
     pub entries : entries_of schema s.tree outer ≡ seen_all s.entries
     pub conds : Each IsTypedCondition s.conds
     pub low : a.entries ≤ middle.entries
+    pub inner : middle.entries ≤ end.entries
     pub high : end.entries ≤ b.entries
     pub own : IsOwn middle.entries end.entries (seen_all s.entries)
 

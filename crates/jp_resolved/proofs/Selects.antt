@@ -60,9 +60,9 @@ module _ (catalog : Catalog) where
   abbrev pub SelectionAt : Claim Selection
   SelectionAt levels a b s = IsSelection schema (scope_of levels) a b s
 
-  selection_is : (distinct : Bool) (outer : Scope) (a m n b : Counts) (sources : Sources) (conds : List Expr) (outputs : List Selected) → is_listed sources.trees ≡ true → has_distinct_numbers (seen_all sources.entries ++ outer) ≡ true → a.entries ≤ m.entries → n.entries ≤ b.entries
+  selection_is : (distinct : Bool) (outer : Scope) (a m n b : Counts) (sources : Sources) (conds : List Expr) (outputs : List Selected) → is_listed sources.trees ≡ true → has_distinct_numbers (seen_all sources.entries ++ outer) ≡ true → a.entries ≤ m.entries → m.entries ≤ n.entries → n.entries ≤ b.entries
       → AreSelected schema (seen_all sources.entries ++ outer) a m outputs → AreSources schema outer m n sources.entries sources.trees → AreConditions schema (seen_all sources.entries ++ outer) n b conds → IsSelection schema outer a b (selection distinct sources conds outputs)
-  selection_is distinct outer a m n b sources conds outputs some apart low high targets froms where_list = record {
+  selection_is distinct outer a m n b sources conds outputs some apart low inner high targets froms where_list = record {
     middle = m;
     end = n;
     members = sources.trees;
@@ -79,6 +79,7 @@ module _ (catalog : Catalog) where
     entries = ap (λ (f : EntriesIn). f outer) (laws.at-From BoundIn EntriesIn BoundIn ColumnIn ColumnsIn expr_bound (tree_entries schema) order_bound output_column query_columns sources.trees []) ∙ froms.sees;
     conds = where_list.1;
     low = low;
+    inner = inner;
     high = high;
     own = froms.own;
   }
@@ -102,7 +103,7 @@ module _ (catalog : Catalog) where
       let conds = subst (λ b. AreConditions schema (scope_of inner) n b y.0) same (c inner n y.0 (record { opened = subst (λ b. IsOpen n.entries b.entries (scope_of inner)) (sym same) behind; few = omega (arith, place.few) }) y.1) in
       let outputs = good inner before z.0 (record { opened = ahead; few = omega (arith, place.few) }) z.1 in
       subst (IsSelection schema (scope_of outer) before end) (same_Ok (selection distinct x.0 y.0 z.0) s z.2)
-      (selection_is distinct (scope_of outer) before m n end x.0 y.0 z.0 (trees_listed items outer [] m x.0 some x.1) behind.distinct (omega arith) (omega arith) outputs froms conds)
+      (selection_is distinct (scope_of outer) before m n end x.0 y.0 z.0 (trees_listed items outer [] m x.0 some x.1) behind.distinct (omega arith) (omega arith) (omega arith) outputs froms conds)
     where
       self : (n : ℕ) → n ≤ n
       self n = omega arith

@@ -229,6 +229,7 @@ module _ (catalog : Catalog) where
     pub listed : Each (IsListed s.distinct s.outputs fresh) items
     pub types : Each (HasType s.distinct s.outputs) items
     pub chosen : s.distinct ≡ true → Each (IsChosen s.distinct s.outputs) items
+    pub middle_few : middle.entries ≤ 12
     pub few : end.entries ≤ 12
 
   from_none : (c : Counts) → both none c ≡ c
@@ -273,5 +274,6 @@ module _ (catalog : Catalog) where
         listed = items.listed;
         types = all_typed s.0.distinct s.0.outputs (s.0.entries ∷ []) c d x.0 selection.outputs along;
         chosen = λ t. all_chosen s.0.distinct s.0.outputs (s.0.entries ∷ []) c d x.0 t along;
+        middle_few = omega (arith, end_is);
         few = end_is;
       })
