@@ -25,3 +25,4 @@ pub mod Standing
 pub mod Paced
 pub mod Wholes
 pub mod TypedTops
+pub mod TypedQueries

@@ -41,16 +41,16 @@ use Rattle.jp_resolved.proofs.Leaving as leave
 column_known : (scope : Scope) (rel place : ℕ) (c : Column) → visible_column scope rel place ≡ Some c → has_type (visible_column scope rel place) c.type ≡ true
 column_known scope rel place c there = ap (λ o. has_type o c.type) there ∙ same_self c.type
 
-takes_columns : Takes knows_columns
+pub takes_columns : Takes knows_columns
 takes_columns = record { bounds = λ n h. refl; columns = column_known; scopes = λ scope h. refl }
 
-takes_placeholders : Takes knows_placeholders
+pub takes_placeholders : Takes knows_placeholders
 takes_placeholders = record { bounds = λ n h. refl; columns = λ scope rel place c there. refl; scopes = λ scope h. refl }
 
-takes_scopes : Takes tells_relations_apart
+pub takes_scopes : Takes tells_relations_apart
 takes_scopes = record { bounds = λ n h. refl; columns = λ scope rel place c there. refl; scopes = λ scope h. h }
 
-takes_bounds : Takes keeps_bounds
+pub takes_bounds : Takes keeps_bounds
 takes_bounds = record { bounds = λ n h. h; columns = λ scope rel place c there. refl; scopes = λ scope h. refl }
 
 -- ---- numbers below 12
@@ -62,12 +62,12 @@ union_low : (set : ℕ) (ns : List ℕ) → set < 2 ^ 12 → Each IsLow ns → f
 union_low set [] h each = h
 union_low set (n ∷ ns) h each = union_low (bit_or set (only n)) ns (or_lt 12 set (only n) h (pow-lt each.0)) each.1
 
-few_numbers : (ns : List ℕ) → Each IsLow ns → count_ones (union (map only ns)) ≤ 16
+pub few_numbers : (ns : List ℕ) → Each IsLow ns → count_ones (union (map only ns)) ≤ 16
 few_numbers ns each =
     let below : count_ones (union (map only ns)) ≤ 12 = ones-le 12 (union (map only ns)) (union_low 0 ns (omega arith) each) in
     omega (arith, below)
 
-low_from : (b : ℕ) (ns : List ℕ) → b ≤ 12 → Each (IsBetween (λ n. n) 0 b) ns → Each IsLow ns
+pub low_from : (b : ℕ) (ns : List ℕ) → b ≤ 12 → Each (IsBetween (λ n. n) 0 b) ns → Each IsLow ns
 low_from b [] h each = tt
 low_from b (n ∷ ns) h each = (omega (arith, h, each.0.1), low_from b ns h each.1)
 
@@ -114,7 +114,7 @@ leaf_sources schema = record {
   join = λ a m b xs ys p q. rising_append (λ n. n) a m b xs ys p q;
 }
 
-base_sources : (schema : Schema) → gather.Sources ℕ nothing_of_node base_number schema Numbers
+pub base_sources : (schema : Schema) → gather.Sources ℕ nothing_of_node base_number schema Numbers
 base_sources schema = record {
   nodes = λ x h. refl;
   inner = inner_base;
@@ -124,13 +124,13 @@ base_sources schema = record {
   join = λ a m b xs ys p q. rising_append (λ n. n) a m b xs ys p q;
 }
 
-abbrev IsTable : Schema → ℕ → Type 0
+abbrev pub IsTable : Schema → ℕ → Type 0
 IsTable schema table = table < length schema
 
-abbrev Tables : Schema → ℕ → ℕ → List ℕ → Type 0
+abbrev pub Tables : Schema → ℕ → ℕ → List ℕ → Type 0
 Tables schema a b xs = Each (IsTable schema) xs
 
-table_sources : (schema : Schema) → gather.Sources ℕ nothing_of_node base_table schema (Tables schema)
+pub table_sources : (schema : Schema) → gather.Sources ℕ nothing_of_node base_table schema (Tables schema)
 table_sources schema = record {
   nodes = λ x h. refl;
   inner = inner_table;
@@ -209,7 +209,7 @@ module _ (catalog : Catalog) (s : Selection) (items : List Order) (t : IsTop cat
 
   -- ---- rooted
 
-  rooted : has_leaves (query_of s items) ≡ true
+  pub rooted : has_leaves (query_of s items) ≡ true
   rooted =
       let sel = t.selection in
       let steps = rooting schema in
@@ -226,5 +226,5 @@ module _ (catalog : Catalog) (s : Selection) (items : List Order) (t : IsTop cat
   orders_typed [] each = refl
   orders_typed (o ∷ os) each = and_from (is_some (typed_order o)) (list_all is_some (map typed_order os)) (ap is_some (laws.at-Order Typed Bool Typed TypedOutput TypedQuery expr_type tree_typed order_typed output_typed query_typed o) ∙ each.0) (orders_typed os each.1)
 
-  expressions : (typed_query (query_of s items)).is_typed ≡ true
+  pub expressions : (typed_query (query_of s items)).is_typed ≡ true
   expressions = ap (λ (q : TypedQuery). q.is_typed) (select_typed s items t.selection.outputs t.selection.typed t.selection.conds (orders_typed items t.types))
