@@ -26,3 +26,4 @@ pub mod Paced
 pub mod Wholes
 pub mod TypedTops
 pub mod TypedQueries
+pub mod Placed
