@@ -32,7 +32,7 @@ use Rattle.jp_resolved.proofs.Rising.{Rising, rising_append}
 abbrev pub sublink_number : Sublink → ℕ
 sublink_number s = s.number
 
-abbrev of_tree : JoinTree → Found
+abbrev pub of_tree : JoinTree → Found
 of_tree = para-JoinTree Found Found Found Found Found expr_found tree_found order_found output_found query_found
 
 abbrev of_output : Output → Found

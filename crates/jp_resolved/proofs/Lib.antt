@@ -27,3 +27,4 @@ pub mod Wholes
 pub mod TypedTops
 pub mod TypedQueries
 pub mod Placed
+pub mod FreshQueries

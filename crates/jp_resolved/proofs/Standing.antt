@@ -1,13 +1,14 @@
 -- The occurrences of sublinks in what is made have rising numbers.
-use Rattle.std.proofs.Common.{◌≡◌, ◌∙◌, ap, ap₂, sym, subst, refl, ℕ, suc, ◌+◌, ◌<◌, ◌≤◌, Bool, true, false, List, [], ◌∷◌, ◌++◌, map, length, Some, arith}
+use Rattle.std.proofs.Common.{◌≡◌, ◌∙◌, ap, ap₂, sym, subst, refl, ℕ, suc, ◌+◌, ◌<◌, ◌≤◌, ◌⊎◌, inl, inr, Bool, true, false, List, [], ◌∷◌, ◌++◌, map, length, Some, arith}
 use Rattle.std.specs.Prelude.{if◌then◌else◌}
 use Rattle.std.proofs.lemmas.Bool.{false≢true}
 use Rattle.std.proofs.lemmas.List.{append-nil}
 use Rattle.jp_ast.specs.declared.tree.JoinWord.{JoinWord}
 use Rattle.jp_query.specs.Freshness.{Occurrence, below, from_parts, itself, inside, listed_here, expr_occurrences, tree_occurrences, order_occurrences, output_occurrences, query_occurrences, occurrences_in}
-use Rattle.jp_query.specs.Parts.{parts, option_part, sublink_query}
+use Rattle.jp_query.specs.Parts.{all_in, parts, option_part, sublink_query}
 use Rattle.jp_query.specs.Typing.{is_listed}
 use Rattle.jp_induction.proofs.EachPart.{Each, parts_map}
+use Rattle.jp_facts.proofs.Members.{In}
 use Rattle.jp_query.specs.declared.Expr.{Expr}
 use Rattle.jp_query.specs.declared.Expr.TheVariants as expr
 use Rattle.jp_query.specs.declared.Expr.TheOpen.{Expr-F, JoinTree-F, Order-F, Output-F, Query-F}
@@ -72,6 +73,22 @@ join_rises = rising_append occurrence_number
 pub parts_rise : (scope : Scope) (a b : Counts) (es : List Expr) (i : ℕ) → Along (ExprStands scope) a b es → Rises a b (from_parts i (map of_expr es))
 parts_rise scope a b [] i along = same_none a b along
 parts_rise scope a b (e ∷ es) i along = join_rises (suc a.sublinks) (suc along.0.sublinks) (suc b.sublinks) (map (below i) (of_expr e)) (from_parts (i + 1) (map of_expr es)) (below_rises i (suc a.sublinks) (suc along.0.sublinks) (of_expr e) along.1) (parts_rise scope along.0 b es (i + 1) along.2)
+
+pub all_rise : (scope : Scope) (a b : Counts) (es : List Expr) → Along (ExprStands scope) a b es → Rises a b (all_in (map of_expr es))
+all_rise scope a b [] along = same_none a b along
+all_rise scope a b (e ∷ es) along = join_rises (suc a.sublinks) (suc along.0.sublinks) (suc b.sublinks) (of_expr e) (all_in (map of_expr es)) along.1 (all_rise scope along.0 b es along.2)
+
+-- each expression's occurrences, among those of a list that has them
+pub parts_of : (scope : Scope) (a b : Counts) (es : List Expr) (all : List Occurrence) → ((e : Expr) → In e es → (x : Occurrence) → In x (of_expr e) → In x all) → Along (ExprStands scope) a b es → Each (λ e. (c : ℕ) × (d : ℕ) × Rising occurrence_number c d (of_expr e) × Each (λ s. In s all) (of_expr e)) es
+parts_of scope a b [] all within along = tt
+parts_of scope a b (e ∷ es) all within along = (
+  (suc a.sublinks, suc along.0.sublinks, along.1, each_member (of_expr e) (within e (inl refl))),
+  parts_of scope along.0 b es all (λ f h x p. within f (inr h) x p) along.2,
+)
+  where
+    each_member : (xs : List Occurrence) → ((x : Occurrence) → In x xs → In x all) → Each (λ s. In s all) xs
+    each_member [] h = tt
+    each_member (x ∷ xs) h = (h x (inl refl), each_member xs (λ y r. h y (inr r)))
 
 trees_rise : (outer : Scope) (a b : Counts) (own : Scope) (ts : List JoinTree) (i : ℕ) → TreesAlong (TreeStands outer) a b own ts → Rises a b (from_parts i (map of_tree ts))
 trees_rise outer a b own [] i along = same_none a b along.1

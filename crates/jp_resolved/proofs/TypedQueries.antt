@@ -77,7 +77,7 @@ module _ (catalog : Catalog) (s : Selection) (items : List Order) (t : IsTop cat
       ∙ ap (λ os. (beside body (together os)).apart) (orders_are items)
       ∙ with_orders t.end.entries all body (map expr_of_order items) rising body_is.apart (each_from (λ x. In x all) body.leaves (λ x h. in_append_left x body.leaves fs.leaves h)) repeated
 
-  low_between : (a b : ℕ) (xs : List ℕ) → b ≤ 12 → Numbers a b xs → Each IsLow xs
+  pub low_between : (a b : ℕ) (xs : List ℕ) → b ≤ 12 → Numbers a b xs → Each IsLow xs
   low_between a b xs h rising = each_low xs (rising_between (λ n. n) a b xs rising)
     where
       each_low : (ns : List ℕ) → Each (λ n. (a ≤ n) × (n < b)) ns → Each IsLow ns
