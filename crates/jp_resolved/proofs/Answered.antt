@@ -1,5 +1,5 @@
 -- What an answer that is there was made of.
-use Rattle.std.proofs.Common.{◌≡◌, refl, Bool, true, false, List, [], ◌∷◌, Option, Some, None, Ok, Err}
+use Rattle.std.proofs.Common.{◌≡◌, refl, Bool, true, false, Ok, Err}
 use Rattle.jp_resolution.specs.declared.error.ResolveError.{ResolveError}
 use Rattle.jp_resolution.specs.Answers.{Answer, ◌>>=◌, only_if}
 

@@ -1,39 +1,29 @@
 -- CASE over what was found: its types and its bound.
-use Rattle.std.proofs.Common.{◌≡◌, ◌∙◌, ◌^◌, ◌-◌, ap, ap₂, sym, subst, refl, ℕ, suc, ◌+◌, ◌<◌, ◌≤◌, ◌⊎◌, inl, inr, Bool, true, false, List, [], ◌∷◌, ◌++◌, map, fold, Option, Some, None, Ok, Err, arith}
-use Rattle.std.specs.Prelude.{◌&&◌, ℤ, nat_abs, nat_le, sum, is_some, max, if◌then◌else◌}
+use Rattle.std.proofs.Common.{◌≡◌, ◌∙◌, ap, ap₂, sym, subst, refl, ℕ, Bool, true, List, [], ◌∷◌, ◌++◌, map, Option, Some, None, Ok}
+use Rattle.std.specs.Prelude.{◌&&◌, is_some, if◌then◌else◌}
 use Rattle.std.specs.List.{list_all}
 use Rattle.std.specs.Option.{option_map}
 use Rattle.std.proofs.lemmas.List.{map-append}
 use Rattle.std.proofs.lemmas.List.Folds.{list_all-append}
-use Rattle.std.proofs.lemmas.Bool.{and_parts, and_from, false≢true, le-leb, leb-true}
+use Rattle.std.proofs.lemmas.Bool.{and_parts, and_from, false≢true}
 use Rattle.jp_base.specs.declared.values.Ty.{Ty}
 use Rattle.jp_base.specs.declared.values.Ty.TheVariants as ty
-use Rattle.jp_base.specs.declared.values.Value.TheVariants as value
-use Rattle.jp_ast.specs.declared.tree.CmpWord.{CmpWord}
-use Rattle.jp_ast.specs.declared.tree.IsWord.{IsWord}
-use Rattle.jp_ast.specs.declared.tree.IsWord.TheVariants as word
-use Rattle.jp_query.specs.declared.IsTest.{IsTest}
-use Rattle.jp_query.specs.declared.IsTest.TheVariants as is
 use Rattle.jp_query.specs.declared.Expr.{Expr}
 use Rattle.jp_query.specs.declared.Expr.TheVariants as expr
 use Rattle.jp_query.specs.declared.Expr.TheOpen.{Expr-F}
-use Rattle.jp_query.specs.Conditions.{fits}
 use Rattle.jp_query.specs.Parts.{arm_parts, option_part}
-use Rattle.jp_query.specs.Scopes.{Schema, Scope, BoundIn, EntriesIn, ColumnIn, ColumnsIn, in_scope, arm_result, greatest, product, expr_bound, tree_entries, order_bound, output_column, query_columns, bound_of}
-use Rattle.jp_query.specs.Typing.{arm_when, are_whens, Typed, TypedOutput, TypedQuery, same_type, type_of, typed_if, is_of, is_listed, are_all, one_type, can_test, expr_type, tree_typed, order_typed, output_typed, query_typed}
+use Rattle.jp_query.specs.Scopes.{Schema, Scope, BoundIn, EntriesIn, ColumnIn, ColumnsIn, in_scope, arm_result, greatest, expr_bound, tree_entries, order_bound, output_column, query_columns, bound_of}
+use Rattle.jp_query.specs.Typing.{arm_when, are_whens, Typed, TypedOutput, TypedQuery, type_of, is_listed, one_type, expr_type, tree_typed, order_typed, output_typed, query_typed}
 use Rattle.jp_query.proofs.FoldLaws as laws
-use Rattle.jp_resolution.specs.declared.error.ResolveError.{ResolveError}
 use Rattle.jp_resolution.specs.declared.words.Counts.{Counts}
 use Rattle.jp_resolution.specs.declared.words.TypedExpr.{TypedExpr}
-use Rattle.jp_resolution.specs.Types.{CaseParts, when_type, arm_as, compared, results, case_expr, case_node, typed_if as judged_if, can_be, with_type, expr_as, common_type, are_of_one_type, own_type, own_expr, typed, truth, bound_in, bounded, number_literal, text_literal, truth_literal, null_literal, signed_expr, sign_node, term_as, sum_node, product_node, concat_node, op_of, comparison, compare_node, range, between_node, membership, in_list_node, booleans, and_node, or_node, not_node, test_of, test_node, is_node, coalesce_node}
+use Rattle.jp_resolution.specs.Types.{CaseParts, when_type, arm_as, compared, results, case_expr, case_node, can_be, expr_as, common_type, are_of_one_type, typed, bound_in}
 use Rattle.jp_induction.proofs.EachPart.{Each, each_append}
-use Rattle.jp_resolution.specs.Answers.{◌>>=◌, only_if}
-use Rattle.jp_resolved.proofs.Answered.{same_Ok, no_Ok, if_parts}
+use Rattle.jp_resolved.proofs.Answered.{if_parts}
 use Rattle.jp_resolved.proofs.Spans.{Along}
 use Rattle.jp_resolved.proofs.Made.{MadeExprs, no_exprs, more_exprs}
-use Rattle.jp_resolved.proofs.Found.{HasType, bound_at, Fits, IsExpr, Found, found_typed, found_own, node, AreExprs, no_more, one_more, as_exprs}
-
-use Rattle.jp_resolved.proofs.Nodes.{all_typed, one_typed, types_of, listed_map, fits_zero, greatest_fits, bounds_of}
+use Rattle.jp_resolved.proofs.Found.{Fits, Found, found_typed, node}
+use Rattle.jp_resolved.proofs.Nodes.{all_typed, one_typed, listed_map, fits_zero, greatest_fits}
 
 module _ (schema : Schema) (scope : Scope) where
   pub made_append : (a m b : Counts) (xs ys : List Expr) → MadeExprs schema scope a m xs → MadeExprs schema scope m b ys → MadeExprs schema scope a b (xs ++ ys)
@@ -131,6 +121,6 @@ module _ (schema : Schema) (scope : Scope) where
       (node schema scope a b r (greatest (map bound_in rs)) (Expr-F.Case o l d) (expr.Case o l d) (expr.rolls-Case o l d) refl
       (made_append a m b (option_part o) (arm_parts l ++ option_part d) operand.made (made_append m n b (arm_parts l) (option_part d) arms.made otherwise.made))
       (laws.at-Case Typed Bool Typed TypedOutput TypedQuery expr_type tree_typed order_typed output_typed query_typed o l d ∙ ap (λ v. if v then one_type (thens ++ ends) else None) (whens_typed parts.operand (map arm_when parts.arms) whens some_whens operand.types arms.whens)
-          ∙ one_typed r (thens ++ ends) some_thens (each_append (IsTyped r) thens ends arms.thens otherwise.types))
+      ∙ one_typed r (thens ++ ends) some_thens (each_append (IsTyped r) thens ends arms.thens otherwise.types))
       (ap (λ (f : BoundIn). f scope) (laws.at-Case BoundIn EntriesIn BoundIn ColumnIn ColumnsIn expr_bound (tree_entries schema) order_bound output_column query_columns o l d) ∙ ap greatest (map-append (in_scope scope) (map arm_result (map bound_of_arm l)) (option_part (option_map (bound_of schema) d)) ∙ ap₂ (λ xs ys. xs ++ ys) arms.bounds otherwise.bounds ∙ sym (map-append bound_in (map arm_result parts.arms) (option_part parts.otherwise))))
       (greatest_fits 0 (map bound_in rs) fits_zero (each_fit (map arm_result parts.arms) (option_part parts.otherwise) arms.fit otherwise.fit))))

@@ -1,5 +1,5 @@
 -- The conjuncts of a condition that is made are made, with its numbers.
-use Rattle.std.proofs.Common.{◌≡◌, ◌∙◌, ap, sym, subst, refl, Bool, true, false, List, [], ◌∷◌, ◌++◌, map, Some, None}
+use Rattle.std.proofs.Common.{◌≡◌, ◌∙◌, ap, sym, subst, refl, Bool, true, false, List, [], ◌∷◌, map, Some, None}
 use Rattle.std.specs.List.{list_all}
 use Rattle.std.proofs.lemmas.Bool.{and_parts}
 use Rattle.jp_base.specs.declared.values.Ty.TheVariants as ty
@@ -18,7 +18,6 @@ use Rattle.jp_query.specs.Parts.{all_in, parts}
 use Rattle.jp_query.specs.Scopes.{Schema, Scope}
 use Rattle.jp_query.specs.Subexpressions.{Exprs, exprs_beside}
 use Rattle.jp_query.specs.Typing.{Typed, TypedOutput, TypedQuery, type_of, typed_if, is_of, is_listed, are_all, expr_type, tree_typed, order_typed, output_typed, query_typed}
-use Rattle.jp_query.proofs.FoldLaws as laws
 use Rattle.jp_laws.proofs.LevelLaws.{values_go}
 use Rattle.jp_resolution.specs.declared.words.Counts.{Counts}
 use Rattle.jp_resolution.specs.Counting.{next_sublink}

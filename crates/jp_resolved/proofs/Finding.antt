@@ -1,16 +1,16 @@
 -- The sublinks of what is made have rising numbers.
-use Rattle.std.proofs.Common.{◌≡◌, ◌∙◌, ap, ap₂, sym, subst, refl, ℕ, suc, ◌+◌, ◌<◌, ◌≤◌, ◌⊎◌, inl, inr, Bool, true, false, List, [], ◌∷◌, ◌++◌, map, arith}
+use Rattle.std.proofs.Common.{◌≡◌, ◌∙◌, ap, ap₂, sym, subst, refl, ℕ, suc, ◌+◌, ◌≤◌, true, List, [], ◌∷◌, ◌++◌, map, arith}
 use Rattle.std.proofs.lemmas.Bool.{false≢true}
 use Rattle.std.proofs.lemmas.List.{append-nil}
 use Rattle.jp_ast.specs.declared.tree.JoinWord.{JoinWord}
 use Rattle.jp_query.specs.Freshness.{Sublink, Found, ExprParts, found_in, sublink_here, expr_found, tree_found, order_found, output_found, query_found, sublinks_in}
 use Rattle.jp_query.specs.Parts.{all_in, parts, option_part, sublink_query}
 use Rattle.jp_query.specs.Subexpressions.{sublinks_of}
-use Rattle.jp_induction.proofs.EachPart.{Each, parts_map}
+use Rattle.jp_induction.proofs.EachPart.{parts_map}
 use Rattle.jp_query.specs.declared.Expr.{Expr}
 use Rattle.jp_query.specs.declared.Expr.TheVariants as expr
-use Rattle.jp_query.specs.declared.Expr.TheOpen.{Expr-F, JoinTree-F, Order-F, Output-F, Query-F}
-use Rattle.jp_query.specs.declared.Expr.TheViews.{roll-Expr, roll-JoinTree, roll-Query, roll-out-Order, roll-out-Output}
+use Rattle.jp_query.specs.declared.Expr.TheOpen.{Expr-F, JoinTree-F}
+use Rattle.jp_query.specs.declared.Expr.TheViews.{roll-Expr, roll-Query, roll-out-Order, roll-out-Output}
 use Rattle.jp_query.specs.declared.Expr.TheFolds.{map-Expr, para-JoinTree, para-Order, para-Output, para-roll-Expr, para-roll-JoinTree, para-roll-Order, para-roll-Output, para-roll-Query}
 use Rattle.jp_query.specs.declared.JoinTree.{JoinTree}
 use Rattle.jp_query.specs.declared.JoinTree.TheVariants as tree
@@ -20,12 +20,11 @@ use Rattle.jp_query.specs.declared.Query.{Query}
 use Rattle.jp_query.specs.Layers.{ExprLayer, QueryLayer}
 use Rattle.jp_query.specs.Scopes.{Column, Scope, Schema}
 use Rattle.jp_resolution.specs.declared.words.Counts.{Counts}
-use Rattle.jp_resolution.specs.Counting.{one_entry, one_sublink, both, next_relation, next_sublink}
+use Rattle.jp_resolution.specs.Counting.{one_entry, both, next_relation, next_sublink}
 use Rattle.jp_resolution.specs.Resolving.{kind_of}
 use Rattle.jp_resolved.specs.Sorted.{expr_of_output, expr_of_order}
 use Rattle.jp_resolved.proofs.Spans.{Along}
 use Rattle.jp_resolved.proofs.Made.{is_operator, Steps, TreesAlong}
-use Rattle.jp_query.specs.Layers.{JoinTreeLayer}
 use Rattle.jp_resolved.proofs.Operands.{no_sublink, operator_map}
 use Rattle.jp_resolved.proofs.Rising.{Rising, rising_append}
 

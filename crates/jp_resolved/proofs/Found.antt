@@ -1,8 +1,7 @@
 -- Expressions that are made, of a type and with a bound; and what was found, which may still take any type.
-use Rattle.std.proofs.Common.{◌≡◌, ◌∙◌, ap, ap₂, sym, subst, refl, ℕ, suc, ◌+◌, ◌<◌, ◌≤◌, Bool, true, false, List, [], ◌∷◌, ◌++◌, map, Option, Some, None, arith}
-use Rattle.std.specs.Prelude.{◌&&◌}
+use Rattle.std.proofs.Common.{◌≡◌, ◌∙◌, ap, ap₂, sym, subst, refl, ℕ, true, List, [], ◌∷◌, map, Option, Some, None}
 use Rattle.std.specs.List.{list_all}
-use Rattle.std.proofs.lemmas.Bool.{and_parts, and_from, false≢true}
+use Rattle.std.proofs.lemmas.Bool.{and_parts, false≢true}
 use Rattle.jp_base.specs.declared.values.Ty.{Ty}
 use Rattle.jp_base.specs.declared.values.Ty.TheVariants as ty
 use Rattle.jp_query.specs.declared.Expr.{Expr}
@@ -11,10 +10,10 @@ use Rattle.jp_query.specs.Conditions.{fits}
 use Rattle.jp_query.specs.Layers.{ExprLayer}
 use Rattle.jp_query.specs.Parts.{parts}
 use Rattle.jp_query.specs.Scopes.{Schema, Scope, bound_of}
-use Rattle.jp_query.specs.Typing.{same_type, type_of, is_of, is_listed}
+use Rattle.jp_query.specs.Typing.{same_type, type_of}
 use Rattle.jp_resolution.specs.declared.words.Counts.{Counts}
 use Rattle.jp_resolution.specs.declared.words.TypedExpr.{TypedExpr}
-use Rattle.jp_resolution.specs.Types.{takes_type, can_be, with_type, expr_as, bound_in, typed, or_type, own_type, own_expr}
+use Rattle.jp_resolution.specs.Types.{takes_type, can_be, expr_as, bound_in, typed, or_type, own_type, own_expr}
 use Rattle.jp_induction.proofs.EachPart.{Each}
 use Rattle.jp_resolved.proofs.Spans.{Along}
 use Rattle.jp_resolved.proofs.Made.{is_operator, MadeExpr, operator, MadeExprs, no_exprs, more_exprs}

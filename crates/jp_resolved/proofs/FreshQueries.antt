@@ -1,5 +1,5 @@
 -- The query that a statement stands for is fresh, and under DISTINCT it sorts by its outputs.
-use Rattle.std.proofs.Common.{◌≡◌, ◌∙◌, ap, ap₂, sym, subst, refl, ℕ, suc, ◌+◌, ◌<◌, ◌≤◌, ◌⊎◌, inl, inr, Bool, true, false, List, [], ◌∷◌, ◌++◌, length, map, Ok, arith}
+use Rattle.std.proofs.Common.{◌≡◌, ap, ap₂, sym, subst, refl, ℕ, suc, ◌<◌, ◌≤◌, ◌⊎◌, inl, inr, true, false, List, [], ◌∷◌, ◌++◌, map, Ok, arith}
 use Rattle.std.specs.Prelude.{All, Contains}
 use Rattle.std.specs.List.{list_any}
 use Rattle.std.proofs.lemmas.Bool.{false≢true, or_cases}
@@ -7,33 +7,31 @@ use Rattle.jp_catalog.specs.declared.types.Catalog.{Catalog}
 use Rattle.jp_ast.specs.declared.tree.Stmt.{Stmt}
 use Rattle.jp_statements.specs.Whole.{is_whole}
 use Rattle.jp_query.specs.declared.Expr.{Expr}
-use Rattle.jp_query.specs.declared.Expr.TheOpen.{Expr-F, JoinTree-F}
+use Rattle.jp_query.specs.declared.Expr.TheOpen.{Expr-F}
 use Rattle.jp_query.specs.declared.Order.{Order}
-use Rattle.jp_query.specs.declared.Output.{Output, out-Output}
-use Rattle.jp_query.specs.declared.Query.{Query, out-Query, out-roll-Query}
+use Rattle.jp_query.specs.declared.Output.{Output}
+use Rattle.jp_query.specs.declared.Query.{Query, out-roll-Query}
 use Rattle.jp_query.specs.Equality.{same_expr}
 use Rattle.jp_query.specs.Freshness.{Sublink, Occurrence, Found, IsFresh, sublinks_in, occurrences_in, may_stand, each_pair, from_parts}
 use Rattle.jp_query.specs.Layers.{QueryLayer}
 use Rattle.jp_query.specs.Parts.{all_in, nothing_of_node, nothing_of_leaf, leaf_number, node_placeholder, leaves_in, placeholders_in_query}
-use Rattle.jp_query.specs.Scopes.{Column, Scope, Schema}
+use Rattle.jp_query.specs.Scopes.{Scope, Schema}
 use Rattle.jp_query.specs.Subexpressions.{sublinks_of}
-use Rattle.jp_induction.proofs.EachPart.{Each, all_of_each, each_append, each_map, each_mapped, each_in_all, each_in_parts, each_weaker}
+use Rattle.jp_induction.proofs.EachPart.{Each, all_of_each, each_append, each_weaker}
 use Rattle.jp_facts.proofs.Members.{In, to_in, from_in, in_append_left, in_append_right, from_append}
 use Rattle.jp_laws.proofs.EqualityLaws.{same_are_equal}
-use Rattle.jp_resolution.specs.declared.words.Counts.{Counts}
 use Rattle.jp_resolution.specs.declared.words.Selection.{Selection}
 use Rattle.jp_resolution.specs.Counting.{none}
 use Rattle.jp_resolution.specs.Ordering.{has_expr}
 use Rattle.jp_resolution.specs.Resolving.{query_of, resolved}
 use Rattle.jp_resolution.specs.Schemas.{schema_of}
 use Rattle.jp_resolved.specs.Sorted.{expr_of_output, expr_of_order, SortsBySelected}
-use Rattle.jp_resolved.proofs.Spans.{Along}
 use Rattle.jp_resolved.proofs.Made.{exprs_have, trees_have}
 use Rattle.jp_resolved.proofs.Seen.{seen_all}
-use Rattle.jp_resolved.proofs.Rising.{Rising, IsBetween, rising_append, rising_between, rising_within, rising_wider, rising_same, in_between}
+use Rattle.jp_resolved.proofs.Rising.{Rising, rising_append, rising_between, rising_within, rising_wider, rising_same, in_between}
 use Rattle.jp_resolved.proofs.Selections.{level_of}
-use Rattle.jp_resolved.proofs.Tops.{IsTop, IsChosen, Repeats, top, in_map}
-use Rattle.jp_resolved.proofs.Wholes.{each_in, each_from, orders_have}
+use Rattle.jp_resolved.proofs.Tops.{IsTop, IsChosen, top}
+use Rattle.jp_resolved.proofs.Wholes.{each_from, orders_have}
 use Rattle.jp_resolved.proofs.Gathering as gather
 use Rattle.jp_resolved.proofs.Finding as find
 use Rattle.jp_resolved.proofs.Standing as stand
@@ -151,11 +149,11 @@ module _ (catalog : Catalog) (s : Selection) (items : List Order) (t : IsTop cat
       let os = all_in (map sublinks_of (map expr_of_order items)) in
       let g = subst (In x) (find.query_is (level_of s items) t.selection.members t.selection.tree_is) h in
       elim (from_append x us (ts ++ (cs ++ os)) g) [
-        inl p ↦ in_append_left x body fresh_found (in_append_left x us (ts ++ cs) p)
+        | inl p ↦ in_append_left x body fresh_found (in_append_left x us (ts ++ cs) p)
         | inr q ↦ elim (from_append x ts (cs ++ os) q) [
-          inl p ↦ in_append_left x body fresh_found (in_append_right x us (ts ++ cs) (in_append_left x ts cs p))
+          | inl p ↦ in_append_left x body fresh_found (in_append_right x us (ts ++ cs) (in_append_left x ts cs p))
           | inr r ↦ elim (from_append x cs os r) [
-            inl p ↦ in_append_left x body fresh_found (in_append_right x us (ts ++ cs) (in_append_right x ts cs p))
+            | inl p ↦ in_append_left x body fresh_found (in_append_right x us (ts ++ cs) (in_append_right x ts cs p))
             | inr q ↦ in_listed (map expr_of_order items) orders_known x q
           ]
         ]
@@ -210,7 +208,7 @@ module _ (catalog : Catalog) (s : Selection) (items : List Order) (t : IsTop cat
       let all = listed ++ behind in
       let rising_all = rising_append stand.occurrence_number 1 n b listed behind (rising_wider stand.occurrence_number 1 m 1 n listed (omega arith) step us) fs in
       let out : (x : Occurrence) → In x all → (x.number < m) ⊎ (n ≤ x.number) = λ x h. elim (from_append x listed behind h) [
-        inl p ↦ inl (in_between stand.occurrence_number 1 m x listed (rising_between stand.occurrence_number 1 m listed us) p).1
+        | inl p ↦ inl (in_between stand.occurrence_number 1 m x listed (rising_between stand.occurrence_number 1 m listed us) p).1
         | inr q ↦ inr (in_between stand.occurrence_number n b x behind (rising_between stand.occurrence_number n b behind fs) q).0
       ] in
       let out_parts = stand.parts_of scope none sel.middle outs all (λ e h x p. in_append_left x listed behind (in_all stand.of_expr e outs x h p)) first in

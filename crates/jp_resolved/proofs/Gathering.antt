@@ -1,14 +1,14 @@
 -- What is made gathers from its levels: nothing from its expressions, and from each leaf what stands at the leaf's number.
-use Rattle.std.proofs.Common.{◌≡◌, ◌∙◌, ap, ap₂, sym, subst, refl, ℕ, ◌+◌, ◌≤◌, Bool, true, false, List, [], ◌∷◌, ◌++◌, map, Option, Some, None, arith}
+use Rattle.std.proofs.Common.{◌≡◌, ◌∙◌, ap, ap₂, sym, subst, refl, ℕ, ◌+◌, Bool, true, false, List, [], ◌∷◌, ◌++◌, map, Some, arith}
 use Rattle.std.specs.List.{slice_get}
 use Rattle.std.proofs.lemmas.Bool.{false≢true}
 use Rattle.std.proofs.lemmas.List.{append-nil}
 use Rattle.jp_ast.specs.declared.tree.JoinWord.{JoinWord}
 use Rattle.jp_query.specs.Parts.{all_in, parts, option_part, sublink_query, expr_gives, tree_gives, order_gives, output_gives, query_gives, gathered, gathered_in_tree, gathered_in_query}
-use Rattle.jp_induction.proofs.EachPart.{Each, parts_map}
+use Rattle.jp_induction.proofs.EachPart.{parts_map}
 use Rattle.jp_query.specs.declared.Expr.{Expr}
 use Rattle.jp_query.specs.declared.Expr.TheVariants as expr
-use Rattle.jp_query.specs.declared.Expr.TheOpen.{Expr-F, JoinTree-F, Order-F, Output-F, Query-F}
+use Rattle.jp_query.specs.declared.Expr.TheOpen.{Expr-F, JoinTree-F}
 use Rattle.jp_query.specs.declared.Expr.TheViews.{roll-Expr, roll-Query}
 use Rattle.jp_query.specs.declared.Expr.TheFolds.{map-Expr, fold-Order, fold-Output, fold-roll-Expr, fold-roll-Query}
 use Rattle.jp_query.specs.declared.JoinTree.{JoinTree}
@@ -20,7 +20,7 @@ use Rattle.jp_query.specs.Layers.{ExprLayer, QueryLayer}
 use Rattle.jp_query.specs.Scopes.{Column, Scope, Schema}
 use Rattle.jp_query.proofs.FoldLaws as laws
 use Rattle.jp_resolution.specs.declared.words.Counts.{Counts}
-use Rattle.jp_resolution.specs.Counting.{one_entry, one_sublink, both, next_relation, next_sublink}
+use Rattle.jp_resolution.specs.Counting.{next_relation, next_sublink}
 use Rattle.jp_resolution.specs.Resolving.{kind_of}
 use Rattle.jp_resolved.specs.Sorted.{expr_of_output, expr_of_order}
 use Rattle.jp_resolved.proofs.Spans.{Along}

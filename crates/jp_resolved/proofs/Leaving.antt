@@ -1,18 +1,16 @@
 -- The leaves of what is made have rising numbers, so each two are apart; those of an expression stand inside its sublinks.
-use Rattle.std.proofs.Common.{◌≡◌, ◌∙◌, ap, ap₂, sym, subst, refl, ℕ, suc, ◌+◌, ◌<◌, ◌≤◌, ◌⊎◌, inl, inr, Bool, true, false, List, [], ◌∷◌, ◌++◌, map, fold, append_assoc, arith}
+use Rattle.std.proofs.Common.{◌≡◌, ◌∙◌, ap, ap₂, sym, subst, refl, ℕ, ◌+◌, ◌<◌, ◌≤◌, inl, inr, Bool, true, false, List, [], ◌∷◌, ◌++◌, map, fold, append_assoc, arith}
 use Rattle.std.specs.Prelude.{◌&&◌, ◌||◌, ◌==◌, not}
 use Rattle.std.specs.List.{list_all, list_any}
 use Rattle.std.proofs.lemmas.Bool.{and_from, false≢true, ne_eqb, eq-eqb, eqb-true}
 use Rattle.std.proofs.lemmas.List.{append-nil}
-use Rattle.jp_ast.specs.declared.tree.JoinWord.{JoinWord}
 use Rattle.jp_query.specs.Conditions.{Leaf, Leaves, no_leaves, beside, together, shares, leaf_is_apart, are_apart, leaf_inside, leaves_inside, leaf, expr_leaves, tree_leaves, order_leaves, output_leaves, query_leaves, judged_leaves}
-use Rattle.jp_query.specs.Parts.{all_in, parts, option_part, sublink_query}
+use Rattle.jp_query.specs.Parts.{all_in, parts}
 use Rattle.jp_query.specs.Typing.{is_listed}
-use Rattle.jp_induction.proofs.EachPart.{Each, parts_map, each_append, each_left, each_right}
+use Rattle.jp_induction.proofs.EachPart.{Each, parts_map, each_append}
 use Rattle.jp_facts.proofs.Members.{In, in_append_left, in_append_right}
 use Rattle.jp_query.specs.declared.Expr.{Expr}
-use Rattle.jp_query.specs.declared.Expr.TheVariants as expr
-use Rattle.jp_query.specs.declared.Expr.TheOpen.{Expr-F, JoinTree-F, Order-F, Output-F, Query-F}
+use Rattle.jp_query.specs.declared.Expr.TheOpen.{Expr-F}
 use Rattle.jp_query.specs.declared.Expr.TheViews.{roll-Expr, roll-Query}
 use Rattle.jp_query.specs.declared.Expr.TheFolds.{map-Expr, fold-Order, fold-Output, fold-roll-Expr, fold-roll-Query}
 use Rattle.jp_query.specs.declared.JoinTree.{JoinTree}
@@ -21,15 +19,15 @@ use Rattle.jp_query.specs.declared.Order.{Order}
 use Rattle.jp_query.specs.declared.Output.{Output}
 use Rattle.jp_query.specs.declared.Query.{Query}
 use Rattle.jp_query.specs.Layers.{ExprLayer, QueryLayer}
-use Rattle.jp_query.specs.Scopes.{Column, Scope, Schema}
+use Rattle.jp_query.specs.Scopes.{Scope, Schema}
 use Rattle.jp_query.proofs.FoldLaws as laws
 use Rattle.jp_resolution.specs.declared.words.Counts.{Counts}
-use Rattle.jp_resolution.specs.Counting.{one_entry, one_sublink, both, next_relation, next_sublink}
+use Rattle.jp_resolution.specs.Counting.{next_relation, next_sublink}
 use Rattle.jp_resolution.specs.Resolving.{kind_of}
 use Rattle.jp_resolved.specs.Sorted.{expr_of_output, expr_of_order}
 use Rattle.jp_resolved.proofs.Spans.{Along}
 use Rattle.jp_resolved.proofs.Made.{is_operator, Steps, TreesAlong}
-use Rattle.jp_resolved.proofs.Operands.{operator_map, along_each}
+use Rattle.jp_resolved.proofs.Operands.{operator_map}
 use Rattle.jp_resolved.proofs.Rising.{Rising, IsBetween, rising_append, rising_between, rising_map, rising_same}
 
 abbrev pub leaf_number : Leaf → ℕ
@@ -191,9 +189,10 @@ leaving schema = record {
   at_among = λ scope a m b operand level p h.
       let q = judged_leaves (roll-Query level) in
       let x = of_expr operand in
-      let e = sym (laws.at-InSub Leaves Leaves Leaves Leaves Leaves expr_leaves tree_leaves order_leaves output_leaves query_leaves (next_sublink a) operand (roll-Query level)) in
-      (subst (AreApart a.entries b.entries) e (beside_apart a.entries m.entries b.entries x (leaves_inside (next_sublink a) q) (first_zero a.entries m.entries x p.0) (inside_apart (next_sublink a) m.entries b.entries q h)),
-        subst (λ (l : Leaves). Each IsInside l.leaves) e (both_inside x (leaves_inside (next_sublink a) q) p.1 (each_inside (next_sublink a) q.leaves)));
+      let e = sym (laws.at-InSub Leaves Leaves Leaves Leaves Leaves expr_leaves tree_leaves order_leaves output_leaves query_leaves (next_sublink a) operand (roll-Query level)) in (
+        subst (AreApart a.entries b.entries) e (beside_apart a.entries m.entries b.entries x (leaves_inside (next_sublink a) q) (first_zero a.entries m.entries x p.0) (inside_apart (next_sublink a) m.entries b.entries q h)),
+        subst (λ (l : Leaves). Each IsInside l.leaves) e (both_inside x (leaves_inside (next_sublink a) q) p.1 (each_inside (next_sublink a) q.leaves)),
+      );
   at_base = λ outer a b name place columns all apart there. subst (AreApart a.entries b.entries) (sym (laws.at-Base Leaves Leaves Leaves Leaves Leaves expr_leaves tree_leaves order_leaves output_leaves query_leaves (next_relation a) name place)) (subst (λ (c : Counts). AreApart a.entries c.entries (leaf a.entries)) all (leaf_apart a.entries (a.entries + 1) (omega arith)));
   at_sub = λ outer a b name level apart h. subst (AreApart a.entries b.entries) (sym (laws.at-Sub Leaves Leaves Leaves Leaves Leaves expr_leaves tree_leaves order_leaves output_leaves query_leaves (next_relation a) name (roll-Query level)))
       (beside_apart a.entries (a.entries + 1) b.entries (leaf a.entries) (judged_leaves (roll-Query level)) (leaf_apart a.entries (a.entries + 1) (omega arith)) h);
@@ -231,6 +230,7 @@ known_apart b all rising x y p q = either (x.number == y.number) refl
   where
     ne : (n m : ℕ) → (n == m) ≡ true → n ≡ m
     ne n m h = eqb-true n m h
+
     either : (same : Bool) → (x.number == y.number) ≡ same → leaf_is_apart x y ≡ true
     either false e = ap (λ same. not same || shares x.sublinks y.sublinks) e
     either true e =

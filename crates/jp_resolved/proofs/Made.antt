@@ -7,12 +7,11 @@ use Rattle.jp_query.specs.declared.Expr.TheViews.{roll-Expr, roll-Query}
 use Rattle.jp_query.specs.declared.JoinTree.TheVariants as tree
 use Rattle.jp_query.specs.declared.Expr.{Expr}
 use Rattle.jp_query.specs.declared.JoinTree.{JoinTree}
-use Rattle.jp_query.specs.declared.Query.{Query}
 use Rattle.jp_query.specs.declared.Expr.TheOpen.{Expr-F}
 use Rattle.jp_query.specs.Layers.{ExprLayer, QueryLayer}
 use Rattle.jp_query.specs.Conditions.{fits, has_distinct_numbers}
 use Rattle.jp_query.specs.Parts.{parts}
-use Rattle.jp_query.specs.Scopes.{Column, Schema, Entry, Scope, visible_column, bound_of, columns_of_query}
+use Rattle.jp_query.specs.Scopes.{Column, Schema, Scope, visible_column, bound_of, columns_of_query}
 use Rattle.jp_query.specs.Typing.{is_listed}
 use Rattle.jp_ast.specs.declared.tree.JoinWord.{JoinWord}
 use Rattle.jp_resolution.specs.declared.words.Counts.{Counts}

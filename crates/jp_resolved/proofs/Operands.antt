@@ -1,9 +1,9 @@
 -- What stands directly at an operator's level, and lists along spans.
-use Rattle.std.proofs.Common.{◌≡◌, refl, ℕ, Bool, true, false, List, [], ◌∷◌, map, Option}
+use Rattle.std.proofs.Common.{◌≡◌, refl, true, List, [], ◌∷◌}
 use Rattle.std.proofs.lemmas.Bool.{false≢true}
 use Rattle.jp_query.specs.declared.Expr.TheOpen.{Expr-F}
 use Rattle.jp_query.specs.declared.Expr.TheFolds.{map-Expr}
-use Rattle.jp_query.specs.Parts.{option_part, sublink_query, ColumnRef, node_column, node_placeholder}
+use Rattle.jp_query.specs.Parts.{option_part, sublink_query, node_column, node_placeholder}
 use Rattle.jp_resolution.specs.declared.words.Counts.{Counts}
 use Rattle.jp_induction.proofs.EachPart.{Each}
 use Rattle.jp_resolved.proofs.Spans.{Along}

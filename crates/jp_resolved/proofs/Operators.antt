@@ -1,35 +1,29 @@
 -- The operators that resolution makes of what was found: their types and their bounds.
-use Rattle.std.proofs.Common.{◌≡◌, ◌∙◌, ◌^◌, ◌-◌, ap, ap₂, sym, subst, refl, ℕ, suc, ◌+◌, ◌<◌, ◌≤◌, ◌⊎◌, inl, inr, Bool, true, false, List, [], ◌∷◌, ◌++◌, map, fold, Option, Some, None, Ok, Err, arith}
-use Rattle.std.specs.Prelude.{◌&&◌, ℤ, nat_abs, nat_le, sum, is_some, max, if◌then◌else◌}
+use Rattle.std.proofs.Common.{◌≡◌, ◌∙◌, ap, sym, subst, refl, ℕ, Bool, true, false, List, [], ◌∷◌, map, Some, Ok}
+use Rattle.std.specs.Prelude.{◌&&◌, sum, is_some}
 use Rattle.std.specs.List.{list_all}
-use Rattle.std.proofs.lemmas.Bool.{and_parts, and_from, false≢true, le-leb, leb-true}
 use Rattle.jp_base.specs.declared.values.Ty.{Ty}
 use Rattle.jp_base.specs.declared.values.Ty.TheVariants as ty
-use Rattle.jp_base.specs.declared.values.Value.TheVariants as value
 use Rattle.jp_ast.specs.declared.tree.CmpWord.{CmpWord}
 use Rattle.jp_ast.specs.declared.tree.IsWord.{IsWord}
 use Rattle.jp_ast.specs.declared.tree.IsWord.TheVariants as word
-use Rattle.jp_query.specs.declared.IsTest.{IsTest}
-use Rattle.jp_query.specs.declared.IsTest.TheVariants as is
 use Rattle.jp_query.specs.declared.Expr.{Expr}
 use Rattle.jp_query.specs.declared.Expr.TheVariants as expr
 use Rattle.jp_query.specs.declared.Expr.TheOpen.{Expr-F}
 use Rattle.jp_query.specs.Conditions.{fits}
 use Rattle.jp_query.specs.Parts.{term_part}
 use Rattle.jp_query.specs.Scopes.{Schema, Scope, BoundIn, EntriesIn, ColumnIn, ColumnsIn, in_scope, greatest, product, expr_bound, tree_entries, order_bound, output_column, query_columns, bound_of}
-use Rattle.jp_query.specs.Typing.{Typed, TypedOutput, TypedQuery, same_type, type_of, typed_if, is_of, is_listed, are_all, one_type, can_test, expr_type, tree_typed, order_typed, output_typed, query_typed}
+use Rattle.jp_query.specs.Typing.{Typed, TypedOutput, TypedQuery, type_of, typed_if, is_of, is_listed, are_all, one_type, can_test, expr_type, tree_typed, order_typed, output_typed, query_typed}
 use Rattle.jp_query.proofs.FoldLaws as laws
 use Rattle.jp_resolution.specs.declared.error.ResolveError.{ResolveError}
 use Rattle.jp_resolution.specs.declared.words.Counts.{Counts}
 use Rattle.jp_resolution.specs.declared.words.TypedExpr.{TypedExpr}
-use Rattle.jp_resolution.specs.Types.{typed_if as judged_if, can_be, with_type, expr_as, common_type, are_of_one_type, own_type, own_expr, typed, truth, bound_in, bounded, number_literal, text_literal, truth_literal, null_literal, signed_expr, sign_node, term_as, sum_node, product_node, concat_node, op_of, comparison, compare_node, range, between_node, membership, in_list_node, booleans, and_node, or_node, not_node, test_of, test_node, is_node, coalesce_node}
-use Rattle.jp_induction.proofs.EachPart.{Each}
+use Rattle.jp_resolution.specs.Types.{typed_if as judged_if, can_be, expr_as, common_type, are_of_one_type, own_type, own_expr, typed, truth, bound_in, bounded, sign_node, term_as, sum_node, product_node, concat_node, op_of, compare_node, between_node, in_list_node, and_node, or_node, not_node, test_of, test_node, is_node, coalesce_node}
 use Rattle.jp_resolution.specs.Answers.{◌>>=◌, only_if}
 use Rattle.jp_resolved.proofs.Answered.{same_Ok, no_Ok, if_parts}
 use Rattle.jp_resolved.proofs.Spans.{Along}
 use Rattle.jp_resolved.proofs.Made.{MadeExprs, no_exprs, more_exprs}
-use Rattle.jp_resolved.proofs.Found.{HasType, bound_at, Fits, IsExpr, Found, found_typed, found_own, node, AreExprs, no_more, one_more, as_exprs}
-
+use Rattle.jp_resolved.proofs.Found.{IsExpr, Found, found_typed, found_own, node, as_exprs}
 use Rattle.jp_resolved.proofs.Nodes.{all_typed, one_typed, types_of, listed_map, fits_zero, greatest_fits, bounds_of}
 
 -- a node that is judged by its type and then by its bound
@@ -60,7 +54,6 @@ null_tests false t type h = ap (λ x. typed_if (is_some x) ty.Boolean) h
 null_tests true t type h = ap (λ x. typed_if (is_some x) ty.Boolean) h
 
 module _ (schema : Schema) (scope : Scope) where
-
   pub product_is : (a b : Counts) (at : ℕ) (es : List TypedExpr) (e : TypedExpr) → is_listed es ≡ true → Along (Found schema scope) a b es → product_node at es ≡ Ok e → Found schema scope a b e
   product_is a b at es e some along h =
       let made = bounded_parts (list_all (can_be ty.Number) es) _ at (typed ty.Number (expr.Product (map (expr_as ty.Number) es)) (product (map bound_in es))) e h in
@@ -146,7 +139,6 @@ module _ (schema : Schema) (scope : Scope) where
   sign_is a b at false e r is h =
       let made = if_parts (can_be ty.Number e) _ (typed ty.Number (expr_as ty.Number e) e.bound) r h in
       subst (Found schema scope a b) made.1 (found_typed schema scope a b ty.Number e.bound (expr_as ty.Number e) (is ty.Number made.0))
-
 
   pub not_is : (a b : Counts) (at : ℕ) (e r : TypedExpr) → Found schema scope a b e → not_node at e ≡ Ok r → Found schema scope a b r
   not_is a b at e r is h =

@@ -1,6 +1,6 @@
 -- What parts of a statement give, over what is visible at their place and over the span of their numbers; and parts made of
 -- parts.
-use Rattle.std.proofs.Common.{◌≡◌, ◌∙◌, ap, sym, subst, refl, ℕ, ◌+◌, ◌≤◌, Bool, true, false, List, [], ◌∷◌, Option, Some, None, Ok, Err, arith}
+use Rattle.std.proofs.Common.{◌≡◌, sym, subst, refl, ℕ, ◌≤◌, true, List, [], ◌∷◌, Option, Some, None, Ok, arith}
 use Rattle.jp_query.specs.Typing.{is_listed}
 use Rattle.jp_resolution.specs.declared.words.Counts.{Counts}
 use Rattle.jp_resolution.specs.Answers.{Answer, ◌>>=◌}
@@ -50,9 +50,11 @@ module _ {A B : Type 0} (P : Claim A) (Q : Claim B) where
       let x = then_parts (left.over levels before) (λ x. right.over levels (both before left.counts) >>= (λ y. Ok (x, y))) pair e in
       let y = then_parts (right.over levels (both before left.counts)) (λ y. Ok (x.0, y)) pair x.2 in
       let same = same_Ok (x.0, y.0) pair y.2 in
-      subst (Two levels before (both before (both left.counts right.counts))) same
-      (both before left.counts, l levels before x.0 (left_place levels before left.counts right.counts place) x.1,
-        subst (λ b. Q levels (both before left.counts) b y.0) (both_assoc before left.counts right.counts) (r levels (both before left.counts) y.0 (right_place levels before left.counts right.counts place) y.1))
+      subst (Two levels before (both before (both left.counts right.counts))) same (
+        both before left.counts,
+        l levels before x.0 (left_place levels before left.counts right.counts place) x.1,
+        subst (λ b. Q levels (both before left.counts) b y.0) (both_assoc before left.counts right.counts) (r levels (both before left.counts) y.0 (right_place levels before left.counts right.counts place) y.1),
+      )
 
 module _ {A : Type 0} (P : Claim A) where
   -- all, one behind the other
@@ -65,9 +67,11 @@ module _ {A : Type 0} (P : Claim A) where
       let x = then_parts (part.over levels before) (λ x. all_over parts levels (both before part.counts) >>= (λ xs. Ok (x ∷ xs))) xs e in
       let more = then_parts (all_over parts levels (both before part.counts)) (λ xs. Ok (x.0 ∷ xs)) xs x.2 in
       let rest = all_good parts each.1 levels (both before part.counts) more.0 (right_place P P levels before part.counts (counts_of_all parts) place) more.1 in
-      subst (Several levels before (both before (both part.counts (counts_of_all parts)))) (same_Ok (x.0 ∷ more.0) xs more.2)
-      (both before part.counts, each.0 levels before x.0 (left_place P P levels before part.counts (counts_of_all parts) place) x.1,
-        subst (λ b. Several levels (both before part.counts) b more.0) (both_assoc before part.counts (counts_of_all parts)) rest)
+      subst (Several levels before (both before (both part.counts (counts_of_all parts)))) (same_Ok (x.0 ∷ more.0) xs more.2) (
+        both before part.counts,
+        each.0 levels before x.0 (left_place P P levels before part.counts (counts_of_all parts) place) x.1,
+        subst (λ b. Several levels (both before part.counts) b more.0) (both_assoc before part.counts (counts_of_all parts)) rest,
+      )
 
   pub some_of : (parts : List (Part A)) (levels : Levels) (before : Counts) (xs : List A) → is_listed parts ≡ true → all_over parts levels before ≡ Ok xs → is_listed xs ≡ true
   some_of [] levels before xs some e = subst (λ ys. is_listed ys ≡ true) (same_Ok [] xs e) some
@@ -102,6 +106,8 @@ module _ {A : Type 0} (P : Claim A) where
   pub sublinked_good : (part : Part A) → Good P part → Good Sublinked (sublinked part)
   sublinked_good part good levels before y place e =
       let found = then_parts (part.over levels (both before one_sublink)) (λ x. Ok (next_sublink before, x)) y e in
-      subst (Sublinked levels before (both before (both one_sublink part.counts))) (same_Ok (next_sublink before, found.0) y found.2)
-      (refl, subst (λ b. P levels (both before one_sublink) b found.0) (both_assoc before one_sublink part.counts)
-          (good levels (both before one_sublink) found.0 (right_place P P levels before one_sublink part.counts place) found.1))
+      subst (Sublinked levels before (both before (both one_sublink part.counts))) (same_Ok (next_sublink before, found.0) y found.2) (
+        refl,
+        subst (λ b. P levels (both before one_sublink) b found.0) (both_assoc before one_sublink part.counts)
+            (good levels (both before one_sublink) found.0 (right_place P P levels before one_sublink part.counts place) found.1),
+      )

@@ -1,5 +1,5 @@
 -- What is made passes at each place a test that its columns, bounds and scopes pass.
-use Rattle.std.proofs.Common.{◌≡◌, ◌∙◌, ap, ap₂, sym, subst, refl, ℕ, Bool, true, false, List, [], ◌∷◌, ◌++◌, map, Option, Some, None}
+use Rattle.std.proofs.Common.{◌≡◌, ◌∙◌, ap, ap₂, sym, subst, refl, ℕ, true, List, [], ◌∷◌, ◌++◌, map, Some}
 use Rattle.std.specs.Prelude.{◌&&◌}
 use Rattle.std.specs.List.{list_all, slice_get, flat_map}
 use Rattle.std.proofs.lemmas.Bool.{and_from}
@@ -8,7 +8,6 @@ use Rattle.jp_ast.specs.declared.tree.JoinWord.{JoinWord}
 use Rattle.jp_ast.specs.declared.tree.JoinWord.TheVariants as join_word
 use Rattle.jp_query.specs.declared.Expr.{Expr}
 use Rattle.jp_query.specs.declared.Expr.TheVariants as expr
-use Rattle.jp_query.specs.declared.Expr.TheOpen.{Expr-F}
 use Rattle.jp_query.specs.declared.Expr.TheViews.{roll-Expr, roll-Query}
 use Rattle.jp_query.specs.declared.Expr.TheFolds.{map-Expr, fold-Order, fold-Output, fold-roll-Expr, fold-roll-Query}
 use Rattle.jp_query.specs.declared.JoinTree.{JoinTree}
@@ -16,11 +15,10 @@ use Rattle.jp_query.specs.declared.JoinTree.TheVariants as tree
 use Rattle.jp_query.specs.declared.Order.{Order}
 use Rattle.jp_query.specs.declared.Output.{Output}
 use Rattle.jp_query.specs.declared.Query.{Query}
-use Rattle.jp_query.specs.Conditions.{Tests, Judged, ExprLevel, passes_in, judged_bound, all_entries, expr_judged, tree_judged, order_judged, output_judged, query_judged, query_passes, judged_expr, judged_tree, judged_query, fits, has_distinct_numbers}
+use Rattle.jp_query.specs.Conditions.{Tests, Judged, ExprLevel, passes_in, judged_bound, all_entries, expr_judged, tree_judged, order_judged, output_judged, query_judged, judged_expr, judged_tree, judged_query, fits, has_distinct_numbers}
 use Rattle.jp_query.specs.Layers.{ExprLayer, QueryLayer}
 use Rattle.jp_query.specs.Parts.{parts, option_part, sublink_query, node_column, node_placeholder}
 use Rattle.jp_query.specs.Scopes.{Column, Entry, Scope, Schema, in_scope, visible_column, columns_of_table, join_entries, bound_of_column, bound_of, columns_of_query}
-use Rattle.jp_query.specs.Typing.{is_listed}
 use Rattle.jp_query.proofs.FoldLaws as laws
 use Rattle.jp_induction.proofs.EachPart.{Each, parts_map}
 use Rattle.jp_laws.proofs.JudgedValues.{bound_judged, columns_judged}
@@ -137,13 +135,14 @@ module _ (schema : Schema) (tests : Tests) (takes : Takes tests) where
       let rolled = laws.at-Join (Judged ℕ) (Judged (List Entry)) (Judged ℕ) (Judged Column) (Judged (List Column)) (expr_judged schema tests) (tree_judged schema tests) (order_judged schema tests) (output_judged schema tests) (query_judged schema tests) (kind_of kind) left right on in
       let both : x.value outer ++ y.value outer ≡ l ++ r = ap₂ (λ xs ys. xs ++ ys) p.0 q.0 in
       let seen : all_entries (x ∷ y ∷ []) outer ++ outer ≡ (l ++ r) ++ outer = ap (λ ys. (x.value outer ++ ys) ++ outer) (append-nil (y.value outer)) ∙ ap (λ xs. xs ++ outer) both in
-      let conds = map judged on in
-      (ap (λ (j : Judged (List Entry)). j.value outer) rolled ∙ kinds kind (x.value outer) (y.value outer) ∙ both,
+      let conds = map judged on in (
+        ap (λ (j : Judged (List Entry)). j.value outer) rolled ∙ kinds kind (x.value outer) (y.value outer) ∙ both,
         ap (λ (j : Judged (List Entry)). j.passes outer) rolled
-        ∙ ap (λ s. tests.scope s && (list_all (passes_in s) conds && (list_all (passes_in outer) (x ∷ y ∷ []) && true))) seen
-        ∙ and_from (tests.scope ((l ++ r) ++ outer)) (list_all (passes_in ((l ++ r) ++ outer)) conds && (list_all (passes_in outer) (x ∷ y ∷ []) && true)) (takes.scopes ((l ++ r) ++ outer) apart)
-        (and_from (list_all (passes_in ((l ++ r) ++ outer)) conds) (list_all (passes_in outer) (x ∷ y ∷ []) && true) (all_pass ((l ++ r) ++ outer) on each)
-        (and_from (list_all (passes_in outer) (x ∷ y ∷ [])) true (and_from (x.passes outer) (y.passes outer && true) p.1 (and_from (y.passes outer) true q.1 refl)) refl)))
+            ∙ ap (λ s. tests.scope s && (list_all (passes_in s) conds && (list_all (passes_in outer) (x ∷ y ∷ []) && true))) seen
+            ∙ and_from (tests.scope ((l ++ r) ++ outer)) (list_all (passes_in ((l ++ r) ++ outer)) conds && (list_all (passes_in outer) (x ∷ y ∷ []) && true)) (takes.scopes ((l ++ r) ++ outer) apart)
+            (and_from (list_all (passes_in ((l ++ r) ++ outer)) conds) (list_all (passes_in outer) (x ∷ y ∷ []) && true) (all_pass ((l ++ r) ++ outer) on each)
+            (and_from (list_all (passes_in outer) (x ∷ y ∷ [])) true (and_from (x.passes outer) (y.passes outer && true) p.1 (and_from (y.passes outer) true q.1 refl)) refl)),
+      )
 
   -- ---- selects
 
@@ -161,11 +160,12 @@ module _ (schema : Schema) (tests : Tests) (takes : Takes tests) where
   from_passes : (outer own : Scope) (a b : Counts) (members : List JoinTree) → has_distinct_numbers (own ++ outer) ≡ true → TreesAlong (TreePasses outer) a b own members → TreePasses outer a b own (tree.From members [])
   from_passes outer own a b members apart along =
       let seen = trees_seen outer a b own members along in
-      let js = map (judged_tree schema tests) members in
-      (ap (λ (j : Judged (List Entry)). j.value outer) (laws.at-From (Judged ℕ) (Judged (List Entry)) (Judged ℕ) (Judged Column) (Judged (List Column)) (expr_judged schema tests) (tree_judged schema tests) (order_judged schema tests) (output_judged schema tests) (query_judged schema tests) members []) ∙ ap (flat_map (in_scope outer)) (values_map members) ∙ seen.1,
+      let js = map (judged_tree schema tests) members in (
+        ap (λ (j : Judged (List Entry)). j.value outer) (laws.at-From (Judged ℕ) (Judged (List Entry)) (Judged ℕ) (Judged Column) (Judged (List Column)) (expr_judged schema tests) (tree_judged schema tests) (order_judged schema tests) (output_judged schema tests) (query_judged schema tests) members []) ∙ ap (flat_map (in_scope outer)) (values_map members) ∙ seen.1,
         ap (λ (j : Judged (List Entry)). j.passes outer) (laws.at-From (Judged ℕ) (Judged (List Entry)) (Judged ℕ) (Judged Column) (Judged (List Column)) (expr_judged schema tests) (tree_judged schema tests) (order_judged schema tests) (output_judged schema tests) (query_judged schema tests) members [])
-        ∙ ap (λ s. tests.scope (s ++ outer) && (true && (list_all (passes_in outer) js && true))) seen.0
-        ∙ and_from (tests.scope (own ++ outer)) (list_all (passes_in outer) js && true) (takes.scopes (own ++ outer) apart) (and_from (list_all (passes_in outer) js) true seen.2 refl))
+            ∙ ap (λ s. tests.scope (s ++ outer) && (true && (list_all (passes_in outer) js && true))) seen.0
+            ∙ and_from (tests.scope (own ++ outer)) (list_all (passes_in outer) js && true) (takes.scopes (own ++ outer) apart) (and_from (list_all (passes_in outer) js) true seen.2 refl),
+      )
 
   outputs_pass : (inner : Scope) (outputs : List Output) → Each (Passes inner) (map expr_of_output outputs) → list_all (passes_in inner) (map judged_output outputs) ≡ true
   outputs_pass inner [] each = refl
@@ -202,5 +202,5 @@ module _ (schema : Schema) (tests : Tests) (takes : Takes tests) where
     at_joined = λ outer a m n b kind l r left right on apart p q along. joined_passes outer a m n b kind l r left right on apart p q (along_each (Passes ((l ++ r) ++ outer)) n b on along);
     at_select = λ outer a m n b own level members plain some is apart outputs trees conds.
         select_passes outer own a m n b level members is apart (along_each (Passes (own ++ outer)) a m (map expr_of_output level.columns) outputs) trees (along_each (Passes (own ++ outer)) n b level.conds conds)
-            (subst (λ os. Each (Passes (own ++ outer)) (map expr_of_order os)) (sym plain) tt);
+        (subst (λ os. Each (Passes (own ++ outer)) (map expr_of_order os)) (sym plain) tt);
   }

@@ -1,6 +1,6 @@
 -- Where two sublinks of one number stand in a select whose ORDER BY items repeat its outputs.
-use Rattle.std.proofs.Common.{◌≡◌, ◌∙◌, ap, ap₂, sym, subst, refl, ℕ, suc, ◌+◌, ◌<◌, ◌≤◌, ◌⊎◌, inl, inr, Bool, true, false, List, [], ◌∷◌, ◌++◌, map, length, Option, Some, None, arith}
-use Rattle.std.specs.Prelude.{◌&&◌, ◌||◌, ◌==◌, not, if◌then◌else◌}
+use Rattle.std.proofs.Common.{◌≡◌, ◌∙◌, ap, ap₂, sym, subst, refl, ℕ, suc, ◌+◌, ◌<◌, ◌≤◌, ◌⊎◌, inl, inr, Bool, true, false, List, [], ◌∷◌, ◌++◌, map, length, Option, arith}
+use Rattle.std.specs.Prelude.{◌&&◌, ◌||◌, ◌==◌, not}
 use Rattle.std.specs.List.{list_all, list_any}
 use Rattle.std.proofs.lemmas.Bool.{and_from, ne_eqb, eq-eqb, eqb-true, or_left, or_right}
 use Rattle.std.proofs.lemmas.List.{map-append}
@@ -9,13 +9,10 @@ use Rattle.jp_query.specs.declared.Expr.TheFolds.{fold-roll-Query}
 use Rattle.jp_query.specs.declared.Expr.TheViews.{roll-Query}
 use Rattle.jp_query.specs.Freshness.{Position, Larger, Occurrence, larger_below, position_below, below, from_parts, listed_here, same_position, in_one_list, are_copies, inside_copies, may_stand, each_pair, expr_occurrences, tree_occurrences, order_occurrences, output_occurrences, query_occurrences, occurrences_in}
 use Rattle.jp_query.specs.Layers.{QueryLayer}
-use Rattle.jp_query.specs.Parts.{all_in}
-use Rattle.jp_query.specs.Typing.{is_listed}
-use Rattle.jp_query.proofs.FoldLaws as laws
-use Rattle.jp_induction.proofs.EachPart.{Each, each_append, each_weaker}
-use Rattle.jp_facts.proofs.Members.{In, from_append}
+use Rattle.jp_induction.proofs.EachPart.{Each, each_append}
+use Rattle.jp_facts.proofs.Members.{In}
 use Rattle.jp_resolved.specs.Sorted.{expr_of_output, expr_of_order}
-use Rattle.jp_resolved.proofs.Rising.{Rising, IsBetween, rising_between, rising_map, rising_same, in_between}
+use Rattle.jp_resolved.proofs.Rising.{Rising, IsBetween, rising_between, rising_map, rising_same}
 use Rattle.jp_resolved.proofs.Standing.{occurrence_number, of_expr, of_tree, of_output, of_order, listed_number, outputs_are, orders_are}
 
 -- ---- pairs
@@ -31,9 +28,11 @@ module _ {X : Type 0} (test : X → X → Bool) where
       left : (a b : Bool) → (a && b) ≡ true → a ≡ true
       left true b h = refl
       left false b h = cc
+
       right : (a b : Bool) → (a && b) ≡ true → b ≡ true
       right true b h = h
       right false b h = cc
+
       all_append : (x : X) (xs ys : List X) → list_all (test x) xs ≡ true → list_all (test x) ys ≡ true → list_all (test x) (xs ++ ys) ≡ true
       all_append x [] ys p q = q
       all_append x (z ∷ xs) ys p q = and_from (test x z) (list_all (test x) (xs ++ ys)) (left (test x z) (list_all (test x) xs) p) (all_append x xs ys (right (test x z) (list_all (test x) xs) p) q)
@@ -90,6 +89,7 @@ module _ (b : ℕ) (all : List Occurrence) (rising : Rising occurrence_number 1 
     where
       left_number : (i : ℕ) (x : Occurrence) → (listed_here (below i x)).number ≡ x.number
       left_number i x = listed_number (below i x)
+
       either : (same : Bool) → (x.number == y.number) ≡ same → may_stand (listed_here (below i x)) (listed_here (below j y)) ≡ true
       either false e = apart_stand (listed_here (below i x)) (listed_here (below j y)) (λ h. differ (x.number == y.number) e (eq-eqb x.number y.number (sym (left_number i x) ∙ h ∙ left_number j y)))
         where
@@ -145,6 +145,7 @@ module _ (b : ℕ) (all : List Occurrence) (rising : Rising occurrence_number 1 
     where
       number_is : z.number ≡ shown.0.1.number
       number_is = ap occurrence_number shown.0.4 ∙ listed_number (below shown.0.0 shown.0.1)
+
       one : (ws : List Occurrence) → Each (IsBetween occurrence_number m n) ws → list_all (may_stand z) ws ≡ true
       one [] each = refl
       one (w ∷ ws) each =

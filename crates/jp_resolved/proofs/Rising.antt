@@ -1,5 +1,5 @@
 -- Lists whose numbers rise, from a first number on and below an end.
-use Rattle.std.proofs.Common.{◌≡◌, ◌∙◌, ap, sym, subst, refl, ℕ, suc, ◌+◌, ◌<◌, ◌≤◌, ◌⊎◌, inl, inr, Bool, true, false, List, [], ◌∷◌, ◌++◌, map, arith}
+use Rattle.std.proofs.Common.{◌≡◌, ◌∙◌, ap, sym, subst, ℕ, suc, ◌<◌, ◌≤◌, inl, inr, List, [], ◌∷◌, ◌++◌, map, arith}
 use Rattle.jp_induction.proofs.EachPart.{Each}
 use Rattle.jp_facts.proofs.Members.{In}
 

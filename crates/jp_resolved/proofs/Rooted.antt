@@ -1,16 +1,12 @@
 -- Each join tree in what is made has a leaf.
-use Rattle.std.proofs.Common.{◌≡◌, ◌∙◌, ap, ap₂, sym, subst, refl, ℕ, Bool, true, false, List, [], ◌∷◌, ◌++◌, map}
+use Rattle.std.proofs.Common.{◌≡◌, ◌∙◌, ap, ap₂, sym, subst, refl, Bool, true, List, [], ◌∷◌, map}
 use Rattle.std.specs.Prelude.{◌&&◌}
-use Rattle.std.specs.List.{list_all}
 use Rattle.std.proofs.lemmas.Bool.{and_from, false≢true}
-use Rattle.jp_ast.specs.declared.tree.JoinWord.{JoinWord}
 use Rattle.jp_query.specs.Conditions.{all_true, expr_rooted, tree_rooted, order_rooted, output_rooted, query_rooted, has_leaves}
-use Rattle.jp_query.specs.Parts.{parts, option_part, sublink_query}
+use Rattle.jp_query.specs.Parts.{parts}
 use Rattle.jp_query.specs.Typing.{is_listed}
 use Rattle.jp_induction.proofs.EachPart.{Each, parts_map}
 use Rattle.jp_query.specs.declared.Expr.{Expr}
-use Rattle.jp_query.specs.declared.Expr.TheVariants as expr
-use Rattle.jp_query.specs.declared.Expr.TheOpen.{Expr-F, JoinTree-F, Order-F, Output-F, Query-F}
 use Rattle.jp_query.specs.declared.Expr.TheViews.{roll-Expr, roll-Query}
 use Rattle.jp_query.specs.declared.Expr.TheFolds.{map-Expr, fold-Order, fold-Output, fold-roll-Expr, fold-roll-Query}
 use Rattle.jp_query.specs.declared.JoinTree.{JoinTree}
@@ -19,13 +15,12 @@ use Rattle.jp_query.specs.declared.Order.{Order}
 use Rattle.jp_query.specs.declared.Output.{Output}
 use Rattle.jp_query.specs.declared.Query.{Query}
 use Rattle.jp_query.specs.Layers.{ExprLayer, QueryLayer}
-use Rattle.jp_query.specs.Scopes.{Column, Scope, Schema}
+use Rattle.jp_query.specs.Scopes.{Scope, Schema}
 use Rattle.jp_query.proofs.FoldLaws as laws
 use Rattle.jp_resolution.specs.declared.words.Counts.{Counts}
-use Rattle.jp_resolution.specs.Counting.{one_entry, one_sublink, both, next_relation, next_sublink}
+use Rattle.jp_resolution.specs.Counting.{next_relation, next_sublink}
 use Rattle.jp_resolution.specs.Resolving.{kind_of}
 use Rattle.jp_resolved.specs.Sorted.{expr_of_output, expr_of_order}
-use Rattle.jp_resolved.proofs.Spans.{Along}
 use Rattle.jp_resolved.proofs.Made.{is_operator, Steps, TreesAlong}
 use Rattle.jp_resolved.proofs.Operands.{no_sublink, operator_map, along_each}
 

@@ -1,17 +1,17 @@
 -- What is visible under levels of entries, and the columns that names take there.
-use Rattle.std.proofs.Common.{◌≡◌, ◌∙◌, ap, sym, subst, refl, ℕ, suc, ◌+◌, ◌<◌, ◌≤◌, ◌⊎◌, inl, inr, Bool, true, false, List, [], ◌∷◌, ◌++◌, map, filter, cond, Option, Some, None, Ok, Err, arith}
-use Rattle.std.specs.Prelude.{◌&&◌, ◌||◌, ◌==◌, not, if◌then◌else◌, option_map}
-use Rattle.std.specs.List.{list_any, slice_get, find, flat_map, enumerate_from}
-use Rattle.std.proofs.lemmas.Bool.{and_parts, and_from, eq-eqb, ne_eqb, or_parts}
-use Rattle.std.proofs.lemmas.Option.{none-some, same_Some, slice_get-map}
-use Rattle.jp_query.specs.Conditions.{fits, are_distinct, has_distinct_numbers, relation_of}
+use Rattle.std.proofs.Common.{◌≡◌, ◌∙◌, ap, subst, refl, ℕ, suc, ◌+◌, ◌<◌, ◌≤◌, ◌⊎◌, inl, inr, Bool, true, false, List, [], ◌∷◌, ◌++◌, map, filter, cond, Option, Some, None, Ok, arith}
+use Rattle.std.specs.Prelude.{◌&&◌, ◌||◌, ◌==◌, not, if◌then◌else◌}
+use Rattle.std.specs.List.{list_any, slice_get, find, enumerate_from}
+use Rattle.std.proofs.lemmas.Bool.{and_parts, eq-eqb, ne_eqb, or_parts}
+use Rattle.std.proofs.lemmas.Option.{none-some, same_Some}
+use Rattle.jp_query.specs.Conditions.{fits, has_distinct_numbers, relation_of}
 use Rattle.jp_query.specs.Scopes.{Scope, visible_columns, visible_column}
 use Rattle.jp_query.specs.Scopes as scopes
 use Rattle.jp_resolution.specs.declared.words.Column.{Column}
 use Rattle.jp_resolution.specs.declared.words.Entry.{Entry}
 use Rattle.jp_resolution.specs.Counting.{Levels}
 use Rattle.jp_resolution.specs.Names.{VisibleColumn, visible_at, entry_columns, columns_of, is_entry, called, or_outer, named_column, or_outer_entry, qualified_entry, the_only, the_entry}
-use Rattle.jp_induction.proofs.EachPart.{Each, each_append, each_left, each_right, each_mapped, each_map, each_weaker}
+use Rattle.jp_induction.proofs.EachPart.{Each, each_append, each_left, each_right}
 use Rattle.jp_resolved.proofs.Answered.{same_Ok, no_Ok}
 use Rattle.jp_resolved.proofs.Rising.{Rising, rising_within}
 
@@ -95,9 +95,10 @@ own_distinct a b c d (e ∷ own) outer low high rising distinct outside =
 own_outside : (c d e f : ℕ) (own : Scope) → (f ≤ c) ⊎ (d ≤ e) → Rising relation_of c d own → Each (IsOutside e f) own
 own_outside c d e f [] side rising = tt
 own_outside c d e f (x ∷ own) side rising =
-    let within : suc x.relation ≤ d = rising_within relation_of (suc x.relation) d own rising.1 in
-    (elim side [ inl h ↦ inr (omega (arith, h, rising.0)) | inr h ↦ inl (omega (arith, h, within)) ],
-      own_outside (suc x.relation) d e f own (elim side [ inl h ↦ inl (omega (arith, h, rising.0)) | inr h ↦ inr h ]) rising.1)
+    let within : suc x.relation ≤ d = rising_within relation_of (suc x.relation) d own rising.1 in (
+      elim side [ inl h ↦ inr (omega (arith, h, rising.0)) | inr h ↦ inl (omega (arith, h, within)) ],
+      own_outside (suc x.relation) d e f own (elim side [ inl h ↦ inl (omega (arith, h, rising.0)) | inr h ↦ inr h ]) rising.1,
+    )
 
 -- what an expression beside the FROM list sees, whose own numbers lie before or behind those of its entries
 pub open_inside : (a b c d e f : ℕ) (own outer : Scope) → a ≤ c → d ≤ b → a ≤ e → f ≤ b → (f ≤ c) ⊎ (d ≤ e) → IsOpen a b outer → IsOwn c d own → IsOpen e f (own ++ outer)
@@ -149,6 +150,7 @@ seen_placed scope relation whole low here k (c ∷ columns) at fit = (
   where
     first : (n : ℕ) → n ≡ n + 0
     first n = omega arith
+
     next : (n j : ℕ) → n + 1 + j ≡ n + suc j
     next n j = omega arith
 

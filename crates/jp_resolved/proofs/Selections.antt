@@ -1,13 +1,12 @@
 -- Selects that are made, with the types and bounds of their outputs; and sublinks over them.
-use Rattle.std.proofs.Common.{◌≡◌, ◌∙◌, ap, ap₂, sym, subst, refl, ℕ, ◌≤◌, Bool, true, false, List, [], ◌∷◌, ◌++◌, map, Option, Some, None, Ok, Err}
+use Rattle.std.proofs.Common.{◌≡◌, ◌∙◌, ap, ap₂, sym, subst, refl, ℕ, ◌≤◌, Bool, true, List, [], ◌∷◌, ◌++◌, map, Some, Ok}
 use Rattle.std.specs.Prelude.{◌&&◌, is_some}
 use Rattle.std.specs.List.{list_all}
-use Rattle.std.proofs.lemmas.Bool.{and_parts, and_from}
+use Rattle.std.proofs.lemmas.Bool.{and_from}
 use Rattle.jp_base.specs.declared.values.Ty.{Ty}
 use Rattle.jp_base.specs.declared.values.Ty.TheVariants as ty
 use Rattle.jp_query.specs.declared.Expr.{Expr}
 use Rattle.jp_query.specs.declared.Expr.TheVariants as expr
-use Rattle.jp_query.specs.declared.Expr.TheOpen.{Expr-F}
 use Rattle.jp_query.specs.declared.Expr.TheFolds.{fold-Output, fold-Order, fold-roll-Query}
 use Rattle.jp_query.specs.declared.Order.{Order}
 use Rattle.jp_query.specs.declared.Output.{Output, out-Output}
@@ -22,14 +21,14 @@ use Rattle.jp_query.proofs.FoldLaws as laws
 use Rattle.jp_resolution.specs.declared.words.Counts.{Counts}
 use Rattle.jp_resolution.specs.declared.words.Selection.{Selection}
 use Rattle.jp_resolution.specs.declared.words.TypedExpr.{TypedExpr}
-use Rattle.jp_resolution.specs.Answers.{◌>>=◌, only_if}
+use Rattle.jp_resolution.specs.Answers.{◌>>=◌}
 use Rattle.jp_resolution.specs.Counting.{one_sublink, both, next_sublink}
 use Rattle.jp_resolution.specs.Resolving.{query_of, exists_node, the_column, in_query, in_select_node}
 use Rattle.jp_resolution.specs.Types.{can_be, expr_as, truth}
 use Rattle.jp_induction.proofs.EachPart.{Each}
 use Rattle.jp_resolved.specs.Sorted.{expr_of_output}
 use Rattle.jp_resolved.proofs.Answered.{same_Ok, no_Ok, if_parts}
-use Rattle.jp_resolved.proofs.Made.{MadeExpr, exists, among, MadeExprs, MadeTrees, MadeSelect, select}
+use Rattle.jp_resolved.proofs.Made.{exists, among, MadeExprs, MadeTrees, MadeSelect, select}
 use Rattle.jp_resolved.proofs.Seen.{seen_columns, seen_all, FitsColumn, IsOwn}
 use Rattle.jp_resolved.proofs.Found.{same_self, IsExpr, Found, found_typed}
 
@@ -76,10 +75,10 @@ pub select_typed : (s : Selection) (order : List Order) → Each IsTypedOutput s
 select_typed s order outputs tree conds sorted =
     fold-roll-Query Typed Bool Typed TypedOutput TypedQuery expr_type tree_typed order_typed output_typed query_typed (level_of s order)
     ∙ ap₂ (λ b ts. record { is_typed = b; outputs = ts })
-        (and_from (list_all output_is_typed (map typed_output s.outputs)) (tree_is_typed s.tree && (are_conditions (map type_of s.conds) && list_all is_some (map typed_order order))) (outputs_typed s.outputs outputs)
-        (and_from (tree_is_typed s.tree) (are_conditions (map type_of s.conds) && list_all is_some (map typed_order order)) tree
-        (and_from (are_conditions (map type_of s.conds)) (list_all is_some (map typed_order order)) (conditions_typed s.conds conds) sorted)))
-        (output_types s.outputs)
+    (and_from (list_all output_is_typed (map typed_output s.outputs)) (tree_is_typed s.tree && (are_conditions (map type_of s.conds) && list_all is_some (map typed_order order))) (outputs_typed s.outputs outputs)
+    (and_from (tree_is_typed s.tree) (are_conditions (map type_of s.conds) && list_all is_some (map typed_order order)) tree
+    (and_from (are_conditions (map type_of s.conds)) (list_all is_some (map typed_order order)) (conditions_typed s.conds conds) sorted)))
+    (output_types s.outputs)
 
 -- ---- columns
 

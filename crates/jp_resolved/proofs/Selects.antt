@@ -1,13 +1,9 @@
 -- A select over FROM items, conditions and targets that are made.
-use Rattle.std.proofs.Common.{◌≡◌, ◌∙◌, ap, ap₂, sym, subst, refl, ℕ, ◌+◌, ◌<◌, ◌≤◌, inl, inr, Bool, true, false, List, [], ◌∷◌, ◌++◌, map, Option, Some, None, Ok, Err, arith}
-use Rattle.std.specs.Prelude.{◌&&◌}
+use Rattle.std.proofs.Common.{◌≡◌, ◌∙◌, ap, sym, subst, refl, ℕ, ◌≤◌, inl, inr, Bool, true, List, [], ◌∷◌, ◌++◌, map, Ok, arith}
 use Rattle.std.specs.List.{list_all}
 use Rattle.std.proofs.lemmas.Bool.{and_from, false≢true}
 use Rattle.jp_catalog.specs.declared.types.Catalog.{Catalog}
 use Rattle.jp_query.specs.declared.Expr.{Expr}
-use Rattle.jp_query.specs.declared.JoinTree.{JoinTree}
-use Rattle.jp_query.specs.declared.JoinTree.TheVariants as tree
-use Rattle.jp_query.specs.declared.Order.{Order}
 use Rattle.jp_query.specs.Conditions.{has_distinct_numbers}
 use Rattle.jp_query.specs.Scopes.{Schema, Scope, BoundIn, EntriesIn, ColumnIn, ColumnsIn, expr_bound, tree_entries, order_bound, output_column, query_columns}
 use Rattle.jp_query.specs.Typing.{Typed, TypedOutput, TypedQuery, is_listed, is_true_test, are_conditions, tree_is_typed, expr_type, tree_typed, order_typed, output_typed, query_typed}
@@ -15,19 +11,18 @@ use Rattle.jp_query.proofs.FoldLaws as laws
 use Rattle.jp_resolution.specs.declared.words.Counts.{Counts}
 use Rattle.jp_resolution.specs.declared.words.Entry.{Entry}
 use Rattle.jp_resolution.specs.declared.words.Selection.{Selection}
-use Rattle.jp_resolution.specs.Answers.{Answer, ◌>>=◌}
+use Rattle.jp_resolution.specs.Answers.{◌>>=◌}
 use Rattle.jp_resolution.specs.Counting.{none, both, Levels, Part}
-use Rattle.jp_resolution.specs.Resolving.{Selected, Targets, ItemMeant, Sources, Source, with_source, items_from, counts_of_items, selection, select_over, select_counts}
+use Rattle.jp_resolution.specs.Resolving.{Selected, Targets, ItemMeant, Sources, with_source, items_from, counts_of_items, selection, select_over, select_counts}
 use Rattle.jp_resolution.specs.Schemas.{schema_of}
 use Rattle.jp_induction.proofs.EachPart.{Each}
 use Rattle.jp_resolved.proofs.Answered.{same_Ok, then_parts}
 use Rattle.jp_resolved.proofs.Spans.{both_assoc, both_none}
-use Rattle.jp_resolved.proofs.Made.{select}
-use Rattle.jp_resolved.proofs.Seen.{seen_all, scope_of, IsOpen, IsOwn, open_inside}
+use Rattle.jp_resolved.proofs.Seen.{seen_all, scope_of, IsOpen, open_inside}
 use Rattle.jp_resolved.proofs.Parts.{IsPlace, place_narrower, Claim, Good}
 use Rattle.jp_resolved.proofs.Conjuncts.{AreConditions}
-use Rattle.jp_resolved.proofs.Selections.{level_of, IsSelection}
-use Rattle.jp_resolved.proofs.Sources.{AreSources, no_sources, more_sources, IsSource, GoodItem, ConditionsAt}
+use Rattle.jp_resolved.proofs.Selections.{IsSelection}
+use Rattle.jp_resolved.proofs.Sources.{AreSources, no_sources, more_sources, GoodItem, ConditionsAt}
 use Rattle.jp_resolved.proofs.Targets.{AreSelected, SelectedAt}
 
 module _ (catalog : Catalog) where
@@ -107,5 +102,6 @@ module _ (catalog : Catalog) where
     where
       self : (n : ℕ) → n ≤ n
       self n = omega arith
+
       assoc : (a b c d : Counts) → both (both (both a b) c) d ≡ both a (both (both b c) d)
       assoc a b c d = both_assoc (both a b) c d ∙ both_assoc a b (both c d) ∙ ap (both a) (sym (both_assoc b c d))

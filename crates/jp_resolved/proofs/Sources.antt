@@ -1,8 +1,8 @@
 -- FROM items that are made: tables, sub-selects and joins, with their entries.
-use Rattle.std.proofs.Common.{◌≡◌, ◌∙◌, ap, ap₂, sym, subst, refl, ℕ, suc, ◌+◌, ◌<◌, ◌≤◌, ◌^◌, inl, inr, Bool, true, false, List, [], ◌∷◌, ◌++◌, map, Option, Some, None, Ok, Err, arith}
+use Rattle.std.proofs.Common.{◌≡◌, ◌∙◌, ap, ap₂, sym, subst, refl, ℕ, suc, ◌+◌, ◌<◌, ◌≤◌, inr, Bool, true, List, [], ◌∷◌, ◌++◌, map, Option, Some, None, Ok, arith}
 use Rattle.std.specs.Prelude.{◌&&◌, nat_lt, option_map}
 use Rattle.std.specs.List.{list_all, slice_get, flat_map}
-use Rattle.std.proofs.lemmas.Bool.{and_parts, and_from, lt-ltb}
+use Rattle.std.proofs.lemmas.Bool.{and_from, lt-ltb}
 use Rattle.std.proofs.lemmas.List.{map-append}
 use Rattle.std.proofs.lemmas.Option.{none-some, same_Some, slice_get-map}
 use Rattle.jp_base.specs.declared.values.Ty.{Ty}
@@ -16,28 +16,25 @@ use Rattle.jp_query.specs.declared.Expr.{Expr}
 use Rattle.jp_query.specs.declared.JoinTree.{JoinTree}
 use Rattle.jp_query.specs.declared.JoinTree.TheVariants as tree
 use Rattle.jp_query.specs.Conditions.{fits, has_distinct_numbers}
-use Rattle.jp_query.specs.Scopes.{Schema, Scope, BoundIn, EntriesIn, ColumnIn, ColumnsIn, in_scope, join_entries, columns_of_table, expr_bound, tree_entries, order_bound, output_column, query_columns, bound_of, entries_of, columns_of_query}
-use Rattle.jp_query.specs.Scopes as scopes
-use Rattle.jp_query.specs.Typing.{Typed, TypedOutput, TypedQuery, is_listed, is_true_test, are_conditions, tree_is_typed, typed_query, type_of, expr_type, tree_typed, order_typed, output_typed, query_typed}
+use Rattle.jp_query.specs.Scopes.{Schema, Scope, BoundIn, EntriesIn, ColumnIn, ColumnsIn, in_scope, join_entries, columns_of_table, expr_bound, tree_entries, order_bound, output_column, query_columns, entries_of}
+use Rattle.jp_query.specs.Typing.{Typed, TypedOutput, TypedQuery, is_true_test, are_conditions, tree_is_typed, typed_query, type_of, expr_type, tree_typed, order_typed, output_typed, query_typed}
 use Rattle.jp_query.proofs.FoldLaws as laws
-use Rattle.jp_resolution.specs.declared.words.Column.{Column}
 use Rattle.jp_resolution.specs.declared.words.Counts.{Counts}
 use Rattle.jp_resolution.specs.declared.words.Entry.{Entry}
 use Rattle.jp_resolution.specs.declared.words.Selection.{Selection}
-use Rattle.jp_resolution.specs.Answers.{Answer, ◌>>=◌}
+use Rattle.jp_resolution.specs.Answers.{◌>>=◌}
 use Rattle.jp_resolution.specs.Counting.{one_entry, both, next_relation, Levels, Part}
 use Rattle.jp_resolution.specs.Resolving.{Source, query_of, entry_name, leaf_name, new_source, table_column, table_source, with_place, table_at, known, table_from, sub_source, sub_from, kind_of, join_from, ItemMeant}
-use Rattle.jp_resolution.specs.Names.{repeats}
 use Rattle.jp_resolution.specs.Schemas.{schema_of, table_columns, schema_columns, schema_column, bound_of as bound_of_type}
 use Rattle.jp_induction.proofs.EachPart.{Each, each_append}
 use Rattle.jp_resolved.proofs.Answered.{same_Ok, no_Ok, then_parts, if_parts}
 use Rattle.jp_resolved.proofs.Spans.{both_assoc}
 use Rattle.jp_resolved.proofs.Made.{MadeExprs, MadeTree, base, sub, joined, MadeTrees, no_trees, more_trees}
 use Rattle.jp_resolved.proofs.Rising.{rising_append, rising_wider}
-use Rattle.jp_resolved.proofs.Seen.{seen_column, seen_columns, seen_all, scope_of, FitsColumn, IsSmall, IsOwn, IsOpen, open_inside}
+use Rattle.jp_resolved.proofs.Seen.{seen_columns, seen_all, scope_of, FitsColumn, IsSmall, IsOwn, IsOpen, open_inside}
 use Rattle.jp_resolved.proofs.Parts.{IsPlace, place_narrower, Claim, Good}
 use Rattle.jp_resolved.proofs.Conjuncts.{AreConditions}
-use Rattle.jp_resolved.proofs.Selections.{level_of, IsTypedCondition, conditions_are, IsSelection, select_made, selection_typed, selection_columns}
+use Rattle.jp_resolved.proofs.Selections.{level_of, conditions_are, IsSelection, select_made, selection_typed, selection_columns}
 
 -- ---- columns of tables
 
@@ -168,6 +165,7 @@ module _ (catalog : Catalog) where
     where
       self : (n : ℕ) → n ≤ n
       self n = omega arith
+
       next : (n : ℕ) → suc n ≤ n + 1
       next n = omega arith
 
@@ -189,7 +187,7 @@ module _ (catalog : Catalog) where
       let fresh = if_parts _ _ (sub_source (next_relation before) alias selection.0) s selection.2 in
       let end = both before (both one_entry select.counts) in
       let inner = subst (λ b. IsSelection (schema_of catalog) (scope_of outer) (both before one_entry) b selection.0) (both_assoc before one_entry select.counts)
-          (good outer (both before one_entry) selection.0 (place_narrower outer before end (both before one_entry) (both (both before one_entry) select.counts) (omega arith) (omega arith) place) selection.1) in
+      (good outer (both before one_entry) selection.0 (place_narrower outer before end (both before one_entry) (both (both before one_entry) select.counts) (omega arith) (omega arith) place) selection.1) in
       subst (IsSource (schema_of catalog) (scope_of outer) before end) fresh.1
       (sub_is (schema_of catalog) (scope_of outer) before end alias selection.0 place.opened.distinct (omega (arith, place.few)) (omega arith) inner)
 
@@ -217,5 +215,6 @@ module _ (catalog : Catalog) where
     where
       self : (n : ℕ) → n ≤ n
       self n = omega arith
+
       assoc : (a b c d : Counts) → both (both (both a b) c) d ≡ both a (both (both b c) d)
       assoc a b c d = both_assoc (both a b) c d ∙ both_assoc a b (both c d) ∙ ap (both a) (sym (both_assoc b c d))

@@ -1,7 +1,7 @@
 -- Spans of the numbers of entries and sublinks: of what stands between two counts.
-use Rattle.std.proofs.Common.{◌≡◌, ap₂, sym, subst, map, ℕ, ◌+◌, ◌≤◌, List, [], ◌∷◌, ◌++◌, arith}
+use Rattle.std.proofs.Common.{◌≡◌, ap₂, sym, subst, map, ℕ, List, [], ◌∷◌, ◌++◌, arith}
 use Rattle.jp_resolution.specs.declared.words.Counts.{Counts}
-use Rattle.jp_resolution.specs.Counting.{none, one_entry, one_sublink, both}
+use Rattle.jp_resolution.specs.Counting.{none, both}
 
 abbrev counted : ℕ → ℕ → Counts
 counted entries sublinks = record { entries = entries; sublinks = sublinks }

@@ -1,17 +1,15 @@
 -- The occurrences of sublinks in what is made have rising numbers.
-use Rattle.std.proofs.Common.{◌≡◌, ◌∙◌, ap, ap₂, sym, subst, refl, ℕ, suc, ◌+◌, ◌<◌, ◌≤◌, ◌⊎◌, inl, inr, Bool, true, false, List, [], ◌∷◌, ◌++◌, map, length, Some, arith}
+use Rattle.std.proofs.Common.{◌≡◌, ◌∙◌, ap, ap₂, sym, subst, refl, ℕ, suc, ◌+◌, ◌≤◌, inl, inr, Bool, true, false, List, [], ◌∷◌, ◌++◌, map, length, Some, arith}
 use Rattle.std.specs.Prelude.{if◌then◌else◌}
 use Rattle.std.proofs.lemmas.Bool.{false≢true}
 use Rattle.std.proofs.lemmas.List.{append-nil}
-use Rattle.jp_ast.specs.declared.tree.JoinWord.{JoinWord}
-use Rattle.jp_query.specs.Freshness.{Occurrence, below, from_parts, itself, inside, listed_here, expr_occurrences, tree_occurrences, order_occurrences, output_occurrences, query_occurrences, occurrences_in}
-use Rattle.jp_query.specs.Parts.{all_in, parts, option_part, sublink_query}
+use Rattle.jp_query.specs.Freshness.{Occurrence, below, from_parts, inside, listed_here, expr_occurrences, tree_occurrences, order_occurrences, output_occurrences, query_occurrences, occurrences_in}
+use Rattle.jp_query.specs.Parts.{all_in, parts}
 use Rattle.jp_query.specs.Typing.{is_listed}
 use Rattle.jp_induction.proofs.EachPart.{Each, parts_map}
 use Rattle.jp_facts.proofs.Members.{In}
 use Rattle.jp_query.specs.declared.Expr.{Expr}
-use Rattle.jp_query.specs.declared.Expr.TheVariants as expr
-use Rattle.jp_query.specs.declared.Expr.TheOpen.{Expr-F, JoinTree-F, Order-F, Output-F, Query-F}
+use Rattle.jp_query.specs.declared.Expr.TheOpen.{Expr-F}
 use Rattle.jp_query.specs.declared.Expr.TheViews.{roll-Expr, roll-Query}
 use Rattle.jp_query.specs.declared.Expr.TheFolds.{map-Expr, fold-Order, fold-Output, fold-roll-Expr, fold-roll-Query}
 use Rattle.jp_query.specs.declared.JoinTree.{JoinTree}
@@ -20,10 +18,10 @@ use Rattle.jp_query.specs.declared.Order.{Order}
 use Rattle.jp_query.specs.declared.Output.{Output}
 use Rattle.jp_query.specs.declared.Query.{Query}
 use Rattle.jp_query.specs.Layers.{ExprLayer, QueryLayer}
-use Rattle.jp_query.specs.Scopes.{Column, Scope, Schema}
+use Rattle.jp_query.specs.Scopes.{Scope, Schema}
 use Rattle.jp_query.proofs.FoldLaws as laws
 use Rattle.jp_resolution.specs.declared.words.Counts.{Counts}
-use Rattle.jp_resolution.specs.Counting.{one_entry, one_sublink, both, next_relation, next_sublink}
+use Rattle.jp_resolution.specs.Counting.{one_entry, both, next_relation, next_sublink}
 use Rattle.jp_resolution.specs.Resolving.{kind_of}
 use Rattle.jp_resolved.specs.Sorted.{expr_of_output, expr_of_order}
 use Rattle.jp_resolved.proofs.Spans.{Along}
@@ -131,8 +129,8 @@ pub rest_rises : (outer own : Scope) (i : ℕ) (m n b : Counts) (level : QueryLa
     → Rising occurrence_number (suc m.sublinks) (suc b.sublinks) (from_parts i (of_tree level.tree ∷ map of_expr level.conds))
 rest_rises outer own i m n b level members is trees conds =
     let t : Rising occurrence_number (suc m.sublinks) (suc n.sublinks) (of_tree level.tree) =
-        subst (λ t. Rising occurrence_number (suc m.sublinks) (suc n.sublinks) (of_tree t)) (sym is)
-        (subst (Rising occurrence_number (suc m.sublinks) (suc n.sublinks)) (sym (laws.at-From (List Occurrence) (List Occurrence) (List Occurrence) (List Occurrence) (List Occurrence) expr_occurrences tree_occurrences order_occurrences output_occurrences query_occurrences members [] ∙ ap (from_parts 0) (append-nil (map of_tree members)))) (trees_rise outer m n own members 0 trees)) in
+    subst (λ t. Rising occurrence_number (suc m.sublinks) (suc n.sublinks) (of_tree t)) (sym is)
+    (subst (Rising occurrence_number (suc m.sublinks) (suc n.sublinks)) (sym (laws.at-From (List Occurrence) (List Occurrence) (List Occurrence) (List Occurrence) (List Occurrence) expr_occurrences tree_occurrences order_occurrences output_occurrences query_occurrences members [] ∙ ap (from_parts 0) (append-nil (map of_tree members)))) (trees_rise outer m n own members 0 trees)) in
     join_rises (suc m.sublinks) (suc n.sublinks) (suc b.sublinks) (map (below i) (of_tree level.tree)) (from_parts (i + 1) (map of_expr level.conds)) (below_rises i (suc m.sublinks) (suc n.sublinks) (of_tree level.tree) t) (parts_rise (own ++ outer) n b level.conds (i + 1) conds)
 
 select_stands : (outer own : Scope) (a m n b : Counts) (level : QueryLayer) (members : List JoinTree) → level.order ≡ [] → level.tree ≡ tree.From members [] → Along (ExprStands (own ++ outer)) a m (map expr_of_output level.columns) → TreesAlong (TreeStands outer) m n own members → Along (ExprStands (own ++ outer)) n b level.conds → SelectStands outer a b level
@@ -164,10 +162,11 @@ standing schema = record {
       (next_first a.sublinks, inside_rises (next_sublink a) (suc (a.sublinks + 1)) (suc b.sublinks) (from_parts 0 (q ∷ [])) (one_part 0 (suc (a.sublinks + 1)) (suc b.sublinks) q h));
   at_among = λ scope a m b operand level p h.
       let q = occurrences_in (roll-Query level) in
-      subst (Rises a b) (sym (laws.at-InSub (List Occurrence) (List Occurrence) (List Occurrence) (List Occurrence) (List Occurrence) expr_occurrences tree_occurrences order_occurrences output_occurrences query_occurrences (next_sublink a) operand (roll-Query level)))
-      (next_first a.sublinks,
+      subst (Rises a b) (sym (laws.at-InSub (List Occurrence) (List Occurrence) (List Occurrence) (List Occurrence) (List Occurrence) expr_occurrences tree_occurrences order_occurrences output_occurrences query_occurrences (next_sublink a) operand (roll-Query level))) (
+        next_first a.sublinks,
         join_rises (suc (a.sublinks + 1)) (suc m.sublinks) (suc b.sublinks) (from_parts 0 (of_expr operand ∷ [])) (map (inside (next_sublink a)) (from_parts 1 (q ∷ []))) (one_part 0 (suc (a.sublinks + 1)) (suc m.sublinks) (of_expr operand) p)
-            (inside_rises (next_sublink a) (suc m.sublinks) (suc b.sublinks) (from_parts 1 (q ∷ [])) (one_part 1 (suc m.sublinks) (suc b.sublinks) q h)));
+            (inside_rises (next_sublink a) (suc m.sublinks) (suc b.sublinks) (from_parts 1 (q ∷ [])) (one_part 1 (suc m.sublinks) (suc b.sublinks) q h)),
+      );
   at_base = λ outer a b name place columns all apart there. subst (Rises a b) (sym (laws.at-Base (List Occurrence) (List Occurrence) (List Occurrence) (List Occurrence) (List Occurrence) expr_occurrences tree_occurrences order_occurrences output_occurrences query_occurrences (next_relation a) name place)) (more_none a.sublinks (suc b.sublinks) [] (same_none (both a one_entry) b all));
   at_sub = λ outer a b name level apart h.
       let q = occurrences_in (roll-Query level) in

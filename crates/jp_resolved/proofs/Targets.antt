@@ -1,35 +1,31 @@
 -- Outputs that are made, and the columns that names take, as expressions.
-use Rattle.std.proofs.Common.{◌≡◌, ◌∙◌, ap, ap₂, sym, subst, refl, ℕ, ◌<◌, ◌≤◌, Bool, true, false, List, [], ◌∷◌, ◌++◌, map, Option, Some, None, Ok, Err}
-use Rattle.std.specs.Prelude.{nat_lt}
+use Rattle.std.proofs.Common.{◌≡◌, ◌∙◌, ap, ap₂, sym, subst, refl, ℕ, Bool, List, [], ◌∷◌, ◌++◌, map, Some, Ok}
 use Rattle.std.proofs.lemmas.Bool.{lt-ltb}
 use Rattle.std.proofs.lemmas.List.{map-append}
 use Rattle.jp_base.specs.declared.values.Ty.{Ty}
 use Rattle.jp_query.specs.declared.Expr.{Expr}
-use Rattle.jp_query.specs.declared.Expr.TheVariants as expr
 use Rattle.jp_query.specs.declared.Expr.TheOpen.{Output-F}
 use Rattle.jp_query.specs.declared.JoinTree.{JoinTree}
 use Rattle.jp_query.specs.declared.Order.{Order}
 use Rattle.jp_query.specs.declared.Query.{Query}
 use Rattle.jp_query.specs.declared.Output.{Output, out-Output, roll-Output, out-roll-Output}
-use Rattle.jp_query.specs.Conditions.{fits}
 use Rattle.jp_query.specs.Scopes.{Schema, Scope, BoundIn, EntriesIn, ColumnIn, ColumnsIn, bound_of_column, visible_column, expr_bound, tree_entries, order_bound, output_column, query_columns, bound_of}
 use Rattle.jp_query.specs.Scopes as scopes
 use Rattle.jp_query.specs.Typing.{Typed, TypedOutput, TypedQuery, type_of, typed_if, expr_type, tree_typed, order_typed, output_typed, query_typed}
 use Rattle.jp_query.proofs.FoldLaws as laws
 use Rattle.jp_resolution.specs.declared.words.Counts.{Counts}
-use Rattle.jp_resolution.specs.declared.words.Entry.{Entry}
 use Rattle.jp_resolution.specs.declared.words.TypedExpr.{TypedExpr}
-use Rattle.jp_resolution.specs.Answers.{Answer, ◌>>=◌}
-use Rattle.jp_resolution.specs.Counting.{Levels, Part, simply, given, listed}
+use Rattle.jp_resolution.specs.Answers.{◌>>=◌}
+use Rattle.jp_resolution.specs.Counting.{Levels, listed}
 use Rattle.jp_resolution.specs.Names.{VisibleColumn, entry_columns, columns_of, column_expr, named_column, qualified_entry, called, the_only, the_entry}
 use Rattle.jp_resolution.specs.Resolving.{Selected, Targets, output_of, column_of, selected, one_output, column_output, all_columns, entry_outputs, all_columns_of, outputs_in, all_outputs, targets_of, column, name_over, column_in, qualified_over}
 use Rattle.jp_resolution.specs.Types.{own_type, own_expr}
 use Rattle.jp_induction.proofs.EachPart.{Each, each_append}
 use Rattle.jp_resolved.specs.Sorted.{expr_of_output}
-use Rattle.jp_resolved.proofs.Answered.{same_Ok, no_Ok, then_parts}
+use Rattle.jp_resolved.proofs.Answered.{same_Ok, then_parts}
 use Rattle.jp_resolved.proofs.Spans.{Along}
 use Rattle.jp_resolved.proofs.Made.{MadeExprs, column as made_column, no_exprs, more_exprs}
-use Rattle.jp_resolved.proofs.Seen.{seen_column, seen_columns, scope_of, FitsColumn, IsSeen, IsSeenEntry, entry_seen, level_seen, named_seen, only_seen, qualified_seen, the_entry_is, are_seen, each_filter}
+use Rattle.jp_resolved.proofs.Seen.{seen_column, seen_columns, scope_of, FitsColumn, IsSeen, entry_seen, level_seen, named_seen, only_seen, qualified_seen, the_entry_is, are_seen, each_filter}
 use Rattle.jp_resolved.proofs.Found.{IsExpr, Found, found_typed, found_own}
 use Rattle.jp_resolved.proofs.CaseNodes.{made_append}
 use Rattle.jp_resolved.proofs.Parts.{IsPlace, Claim, Good, given_good, Several, all_good}

@@ -1,11 +1,11 @@
 -- Statements: what their select makes, and their ORDER BY items, each of which is made behind it or repeats an output.
-use Rattle.std.proofs.Common.{◌≡◌, ◌∙◌, ap, ap₂, sym, subst, refl, ℕ, zero, suc, ◌+◌, ◌<◌, ◌≤◌, ◌⊎◌, inl, inr, Bool, true, false, List, [], ◌∷◌, ◌++◌, map, filter, cond, Option, Some, None, Ok, Err, arith}
-use Rattle.std.specs.Prelude.{◌&&◌, ℤ, pos, nat_le, IsSome, if◌then◌else◌}
+use Rattle.std.proofs.Common.{◌≡◌, ◌∙◌, ap, ap₂, sym, subst, refl, ℕ, zero, suc, ◌+◌, ◌≤◌, ◌⊎◌, inl, inr, Bool, true, false, List, [], ◌∷◌, ◌++◌, map, filter, cond, Option, Some, None, Ok, Err, arith}
+use Rattle.std.specs.Prelude.{ℤ, pos, nat_le, IsSome, if◌then◌else◌}
 use Rattle.std.specs.List.{list_all, list_any, slice_get}
 use Rattle.std.proofs.lemmas.Bool.{and_parts, false≢true, leb-true}
 use Rattle.std.proofs.lemmas.Option.{none-some, same_Some}
 use Rattle.jp_catalog.specs.declared.types.Catalog.{Catalog}
-use Rattle.jp_ast.specs.declared.tree.Ast.{Ast, out-Ast, roll-Ast, roll-out-Ast}
+use Rattle.jp_ast.specs.declared.tree.Ast.{Ast, out-Ast, roll-out-Ast}
 use Rattle.jp_ast.specs.declared.tree.OrderAst.{OrderAst}
 use Rattle.jp_ast.specs.declared.tree.Stmt.{Stmt}
 use Rattle.jp_ast.specs.declared.tree.FromItem.{FromItem}
@@ -13,34 +13,34 @@ use Rattle.jp_ast.specs.declared.tree.Target.{Target}
 use Rattle.jp_ast.specs.declared.tree.Select.{Select}
 use Rattle.jp_ast.specs.declared.tree.Ast.TheOpen.{Ast-F}
 use Rattle.jp_ast.specs.declared.tree.Ast.TheFolds.{map-Ast, fold-roll-Ast}
-use Rattle.jp_statements.specs.Whole.{is_whole_ast, is_whole_select, is_whole_order, is_whole}
+use Rattle.jp_statements.specs.Whole.{is_whole_select, is_whole_order, is_whole}
 use Rattle.jp_query.specs.declared.Expr.{Expr}
 use Rattle.jp_query.specs.declared.JoinTree.{JoinTree}
 use Rattle.jp_query.specs.declared.Query.{Query}
 use Rattle.jp_query.specs.declared.Expr.TheOpen.{Order-F}
 use Rattle.jp_query.specs.declared.Output.{Output}
-use Rattle.jp_query.specs.declared.Order.{Order, out-Order, roll-Order, out-roll-Order}
+use Rattle.jp_query.specs.declared.Order.{Order, roll-Order, out-roll-Order}
 use Rattle.jp_query.specs.Scopes.{Schema}
 use Rattle.jp_query.specs.Typing.{type_of}
 use Rattle.jp_resolution.specs.declared.error.ResolveError.{ResolveError}
 use Rattle.jp_resolution.specs.declared.words.Counts.{Counts}
 use Rattle.jp_resolution.specs.declared.words.Selection.{Selection}
 use Rattle.jp_resolution.specs.declared.words.TypedExpr.{TypedExpr}
-use Rattle.jp_resolution.specs.Answers.{Answer, ◌>>=◌, only_if}
+use Rattle.jp_resolution.specs.Answers.{Answer}
 use Rattle.jp_resolution.specs.Counting.{none, both, Levels, Part, counts_of_all}
 use Rattle.jp_resolution.specs.Ordering.{Written, as_name, as_number, as_literal, as_signed, as_other, signed, output_expr, has_expr, has_output_name, output_at, position, selected, expression, named_output, item_expr}
-use Rattle.jp_resolution.specs.Resolving.{AstMeant, ItemMeant, Targets, ast_meant, ast_part, item_meant, target_meant, select_meant, meant_by, item_by, target_by, select_by, query_of, order_of, order_over, order_part, order_by, orders_by, counts_in_order, counts_in_orders, counts_in, entry_limit, ordered, counted, resolved}
+use Rattle.jp_resolution.specs.Resolving.{AstMeant, ItemMeant, Targets, ast_meant, ast_part, item_meant, target_meant, select_meant, meant_by, item_by, target_by, select_by, query_of, order_of, order_by, orders_by, counts_in_order, counts_in_orders, counts_in, entry_limit, ordered, counted, resolved}
 use Rattle.jp_resolution.specs.Schemas.{schema_of}
 use Rattle.jp_resolution.specs.Types.{own_type, own_expr}
 use Rattle.jp_induction.proofs.EachPart.{Each, each_weaker}
 use Rattle.jp_facts.proofs.Members.{In}
 use Rattle.jp_resolved.specs.Sorted.{expr_of_output, expr_of_order}
 use Rattle.jp_resolved.proofs.Answered.{same_Ok, no_Ok, then_parts, if_parts}
-use Rattle.jp_resolved.proofs.Spans.{Along, both_assoc, both_none}
+use Rattle.jp_resolved.proofs.Spans.{Along, both_none}
 use Rattle.jp_resolved.proofs.Made.{MadeExpr, MadeExprs, no_exprs, more_exprs}
 use Rattle.jp_resolved.proofs.Seen.{seen_all, scope_of, open_inside}
-use Rattle.jp_resolved.proofs.Found.{IsExpr, Found, found_own}
-use Rattle.jp_resolved.proofs.Parts.{IsPlace, place_narrower, Claim, Good, Several, all_good}
+use Rattle.jp_resolved.proofs.Found.{found_own}
+use Rattle.jp_resolved.proofs.Parts.{IsPlace, Claim, Good, all_good}
 use Rattle.jp_resolved.proofs.Selections.{IsSelection, IsTypedOutput, type_of_output}
 use Rattle.jp_resolved.proofs.Walked.{ast_good, select_is_good}
 
@@ -159,12 +159,12 @@ module _ (catalog : Catalog) where
         let made : Order-F Expr JoinTree Order Output Query = record { expr = x.0; desc = order.desc; nulls_first = order.nulls_first } in
         let back : x.0 ≡ expr_of_order o = ap (λ (z : Order-F Expr JoinTree Order Output Query). z.expr) (sym (out-roll-Order made)) ∙ ap expr_of_order (same_Ok (roll-Order made) o x.2) in
         elim (item_is outputs m.place distinct (m.part.over levels before) m.written x.0 x.1) [
-          inl r ↦ inl (sym (both_none before) ∙ ap (both before) (sym (bare_counts order.expr r.0)), subst (Repeats outputs) back r.1)
+          | inl r ↦ inl (sym (both_none before) ∙ ap (both before) (sym (bare_counts order.expr r.0)), subst (Repeats outputs) back r.1)
           | inr r ↦
-            let found = ast_good catalog order.expr whole levels before r.found place r.was in
-            let is = found_own schema (scope_of levels) before end r.found found in
-            let whole_back : own_expr r.found ≡ expr_of_order o = r.same ∙ back in
-            inr (subst (MadeExpr schema (scope_of levels) before end) whole_back is.made, some_type (type_of (expr_of_order o)) (own_type r.found) (ap type_of (sym whole_back) ∙ is.type), λ d. subst (λ y. list_any (has_expr y) outputs ≡ true) back (r.chosen d))
+              let found = ast_good catalog order.expr whole levels before r.found place r.was in
+              let is = found_own schema (scope_of levels) before end r.found found in
+              let whole_back : own_expr r.found ≡ expr_of_order o = r.same ∙ back in
+              inr (subst (MadeExpr schema (scope_of levels) before end) whole_back is.made, some_type (type_of (expr_of_order o)) (own_type r.found) (ap type_of (sym whole_back) ∙ is.type), λ d. subst (λ y. list_any (has_expr y) outputs ≡ true) back (r.chosen d))
         ]
 
     items_each : (orders : List OrderAst) → list_all is_whole_order orders ≡ true → Each (Good IsItem) (map (order_by catalog distinct outputs) orders)
@@ -186,7 +186,7 @@ module _ (catalog : Catalog) where
     gathered levels a b (o ∷ items) along =
         let more = gathered levels along.0 b items along.2 in
         elim along.1 [
-          inl r ↦ record { fresh = more.fresh; made = subst (λ c. MadeExprs schema (scope_of levels) c b more.fresh) (sym r.0) more.made; listed = (inl r.1, more.listed) }
+          | inl r ↦ record { fresh = more.fresh; made = subst (λ c. MadeExprs schema (scope_of levels) c b more.fresh) (sym r.0) more.made; listed = (inl r.1, more.listed) }
           | inr r ↦ record {
             fresh = expr_of_order o ∷ more.fresh;
             made = more_exprs (scope_of levels) a along.0 b (expr_of_order o) more.fresh r.0 more.made;
@@ -258,22 +258,26 @@ module _ (catalog : Catalog) where
       let end_is : d.entries ≤ 12 = subst (λ (k : Counts). (both c k).entries ≤ 12) (sym (counts_same s.0.distinct s.0.outputs stmt.order)) short in
       let start : both none c ≡ c = from_none c in
       let selection : IsSelection schema [] none c s.0 = subst (λ b. IsSelection schema [] none b s.0) start
-          (select_is_good catalog stmt.select parts.0 [] none s.0 (record { opened = record { distinct = refl; outside = tt; small = tt }; few = omega (arith, end_is) }) s.1) in
+      (select_is_good catalog stmt.select parts.0 [] none s.0 (record { opened = record { distinct = refl; outside = tt; small = tt }; few = omega (arith, end_is) }) s.1) in
       let place : IsPlace (s.0.entries ∷ []) c d = record {
         opened = open_inside 0 d.entries selection.middle.entries selection.end.entries c.entries d.entries (seen_all s.0.entries) [] (omega arith) (omega (arith, selection.high)) (omega arith) (omega arith) (inr selection.high) (record { distinct = refl; outside = tt; small = tt }) selection.own;
         few = omega (arith, end_is);
       } in
       let along = all_good (IsItem s.0.distinct s.0.outputs) orders (items_each s.0.distinct s.0.outputs stmt.order parts.1) (s.0.entries ∷ []) c x.0 place x.1 in
-      let items = gathered s.0.distinct s.0.outputs (s.0.entries ∷ []) c d x.0 along in
-      (s.0, x.0, sym (same_Ok (query_of s.0 x.0) q x.2), record {
-        middle = c;
-        end = d;
-        selection = selection;
-        fresh = items.fresh;
-        made = items.made;
-        listed = items.listed;
-        types = all_typed s.0.distinct s.0.outputs (s.0.entries ∷ []) c d x.0 selection.outputs along;
-        chosen = λ t. all_chosen s.0.distinct s.0.outputs (s.0.entries ∷ []) c d x.0 t along;
-        middle_few = omega (arith, end_is);
-        few = end_is;
-      })
+      let items = gathered s.0.distinct s.0.outputs (s.0.entries ∷ []) c d x.0 along in (
+        s.0,
+        x.0,
+        sym (same_Ok (query_of s.0 x.0) q x.2),
+        record {
+          middle = c;
+          end = d;
+          selection = selection;
+          fresh = items.fresh;
+          made = items.made;
+          listed = items.listed;
+          types = all_typed s.0.distinct s.0.outputs (s.0.entries ∷ []) c d x.0 selection.outputs along;
+          chosen = λ t. all_chosen s.0.distinct s.0.outputs (s.0.entries ∷ []) c d x.0 t along;
+          middle_few = omega (arith, end_is);
+          few = end_is;
+        },
+      )

@@ -1,6 +1,5 @@
 -- The query that a statement stands for is typed and bounded.
-use Rattle.std.proofs.Common.{◌≡◌, ◌∙◌, ap, sym, subst, refl, ℕ, ◌<◌, ◌≤◌, Bool, true, false, List, [], ◌∷◌, ◌++◌, length, map, Ok, arith}
-use Rattle.std.specs.Prelude.{All}
+use Rattle.std.proofs.Common.{◌≡◌, ◌∙◌, ap, sym, subst, ℕ, ◌<◌, ◌≤◌, true, List, [], ◌∷◌, ◌++◌, map, Ok, arith}
 use Rattle.jp_catalog.specs.declared.types.Catalog.{Catalog}
 use Rattle.jp_ast.specs.declared.tree.Stmt.{Stmt}
 use Rattle.jp_statements.specs.Whole.{is_whole}
@@ -10,7 +9,7 @@ use Rattle.jp_query.specs.declared.Query.{Query}
 use Rattle.jp_query.specs.Conditions.{Leaf, Leaves, beside, together, knows_columns, knows_placeholders, tells_relations_apart, keeps_bounds, judged_leaves, IsTyped, IsBounded}
 use Rattle.jp_query.specs.Parts.{nothing_of_node, base_number, base_table, base_leaves_in, tables_in}
 use Rattle.jp_query.specs.Scopes.{Scope, Schema}
-use Rattle.jp_induction.proofs.EachPart.{Each, all_of_each, each_both}
+use Rattle.jp_induction.proofs.EachPart.{Each, all_of_each}
 use Rattle.jp_facts.proofs.Members.{In, in_append_left, in_append_right}
 use Rattle.jp_resolution.specs.declared.words.Counts.{Counts}
 use Rattle.jp_resolution.specs.declared.words.Selection.{Selection}
@@ -21,12 +20,12 @@ use Rattle.jp_resolved.specs.Sorted.{expr_of_output, expr_of_order}
 use Rattle.jp_resolved.proofs.Spans.{Along}
 use Rattle.jp_resolved.proofs.Made.{exprs_have, trees_have}
 use Rattle.jp_resolved.proofs.Seen.{seen_all}
-use Rattle.jp_resolved.proofs.Rising.{Rising, rising_append, rising_between}
+use Rattle.jp_resolved.proofs.Rising.{rising_append, rising_between}
 use Rattle.jp_resolved.proofs.Selections.{level_of}
 use Rattle.jp_resolved.proofs.Tops.{IsTop, top}
 use Rattle.jp_resolved.proofs.Wholes.{each_in, each_from, orders_have}
-use Rattle.jp_resolved.proofs.Leaving.{leaf_number, IsInside, of_expr, of_tree, of_output, of_order, ExprApart, TreeApart, SelectApart, leaving, body_apart, exprs_apart, outputs_are, orders_are, query_is, in_together, IsKnown, IsRepeated, with_orders}
-use Rattle.jp_resolved.proofs.TypedTops.{IsLow, low_from, few_numbers, Numbers, base_sources, IsTable, Tables, table_sources, judged, gathers, rooted, expressions, takes_columns, takes_placeholders, takes_scopes, takes_bounds}
+use Rattle.jp_resolved.proofs.Leaving.{leaf_number, IsInside, of_expr, of_tree, of_output, ExprApart, TreeApart, SelectApart, leaving, body_apart, exprs_apart, outputs_are, orders_are, query_is, in_together, IsKnown, IsRepeated, with_orders}
+use Rattle.jp_resolved.proofs.TypedTops.{IsLow, few_numbers, Numbers, base_sources, IsTable, Tables, table_sources, judged, gathers, rooted, expressions, takes_columns, takes_placeholders, takes_scopes, takes_bounds}
 
 -- what each expression has by itself
 abbrev IsAlone : Expr → Type 0
@@ -40,8 +39,8 @@ alone_along scope a b (e ∷ es) along = ((along.1.0.apart, along.1.1), alone_al
 repeated_in : (all : List Leaf) (es : List Expr) → ((x : Leaf) → In x (together (map of_expr es)).leaves → In x all) → Each IsAlone es → Each (IsRepeated all) es
 repeated_in all es within each =
     each_from (IsRepeated all) es (λ e h.
-        let alone = each_in IsAlone e es each h in
-        (alone.0, each_from (IsKnown all) (of_expr e).leaves (λ x r. (within x (in_together e es x h r), each_in IsInside x (of_expr e).leaves alone.1 r))))
+    let alone = each_in IsAlone e es each h in
+    (alone.0, each_from (IsKnown all) (of_expr e).leaves (λ x r. (within x (in_together e es x h r), each_in IsInside x (of_expr e).leaves alone.1 r))))
 
 module _ (catalog : Catalog) (s : Selection) (items : List Order) (t : IsTop catalog s items) where
   abbrev schema : Schema
@@ -68,11 +67,11 @@ module _ (catalog : Catalog) (s : Selection) (items : List Order) (t : IsTop cat
       let all = body.leaves ++ fs.leaves in
       let rising = rising_append leaf_number 0 t.middle.entries t.end.entries body.leaves fs.leaves body_is.rising fresh_is.rising in
       let us_in : (x : Leaf) → In x (together (map of_expr outs)).leaves → In x all = λ x h.
-          in_append_left x body.leaves fs.leaves (in_append_left x (us.leaves ++ (of_tree s.tree).leaves) cs.leaves (in_append_left x us.leaves (of_tree s.tree).leaves (subst (λ ls. In x (together ls).leaves) (sym (outputs_are s.outputs)) h))) in
+      in_append_left x body.leaves fs.leaves (in_append_left x (us.leaves ++ (of_tree s.tree).leaves) cs.leaves (in_append_left x us.leaves (of_tree s.tree).leaves (subst (λ ls. In x (together ls).leaves) (sym (outputs_are s.outputs)) h))) in
       let repeated = orders_have catalog (IsRepeated all) s.distinct s.outputs t.fresh items
-          (repeated_in all outs us_in (alone_along scope none sel.middle outs first))
-          (repeated_in all t.fresh (λ x h. in_append_right x body.leaves fs.leaves h) (alone_along scope t.middle t.end t.fresh fourth))
-          t.listed in
+      (repeated_in all outs us_in (alone_along scope none sel.middle outs first))
+      (repeated_in all t.fresh (λ x h. in_append_right x body.leaves fs.leaves h) (alone_along scope t.middle t.end t.fresh fourth))
+      t.listed in
       ap (λ (l : Leaves). l.apart) (query_is (level_of s items))
       ∙ ap (λ os. (beside body (together os)).apart) (orders_are items)
       ∙ with_orders t.end.entries all body (map expr_of_order items) rising body_is.apart (each_from (λ x. In x all) body.leaves (λ x h. in_append_left x body.leaves fs.leaves h)) repeated

@@ -1,7 +1,7 @@
 -- A statement's query is typed and bounded.
-use Rattle.std.proofs.Common.{◌≡◌, ◌∙◌, ap, sym, subst, refl, ℕ, suc, ◌+◌, ◌<◌, ◌≤◌, ◌^◌, Bool, true, false, List, [], ◌∷◌, ◌++◌, length, map, fold, Some, arith}
-use Rattle.std.specs.Prelude.{◌&&◌, All, bit_or, count_ones, is_some, IsSome}
-use Rattle.std.specs.List.{list_all, slice_get}
+use Rattle.std.proofs.Common.{◌≡◌, ◌∙◌, ap, sym, subst, refl, ℕ, ◌+◌, ◌<◌, ◌≤◌, ◌^◌, Bool, true, false, List, [], ◌∷◌, ◌++◌, length, map, fold, Some, arith}
+use Rattle.std.specs.Prelude.{bit_or, count_ones, is_some, IsSome}
+use Rattle.std.specs.List.{list_all}
 use Rattle.std.proofs.Math.Pow.{pow-lt}
 use Rattle.std.proofs.lemmas.Bool.{and_from, false≢true}
 use Rattle.std.proofs.lemmas.Nat.{or_lt, ones-le}
@@ -10,31 +10,29 @@ use Rattle.jp_catalog.specs.declared.types.Catalog.{Catalog}
 use Rattle.jp_query.specs.declared.Expr.{Expr}
 use Rattle.jp_query.specs.declared.Order.{Order}
 use Rattle.jp_query.specs.declared.Expr.TheOpen.{Expr-F, JoinTree-F}
-use Rattle.jp_query.specs.Conditions.{Tests, all_pass, knows_columns, knows_placeholders, tells_relations_apart, keeps_bounds, judged_query, fits, IsTyped, IsBounded, has_leaves, judged_leaves, has_type}
-use Rattle.jp_query.specs.Parts.{all_in, nothing_of_node, base_number, base_table, leaf_number, gathered_in_query, base_leaves_in, leaves_in, tables_in}
+use Rattle.jp_query.specs.Conditions.{Tests, knows_columns, knows_placeholders, tells_relations_apart, keeps_bounds, judged_query, has_leaves, has_type}
+use Rattle.jp_query.specs.Parts.{all_in, nothing_of_node, base_number, base_table, leaf_number, gathered_in_query}
 use Rattle.jp_query.specs.Refs.{only, union}
 use Rattle.jp_query.specs.Scopes.{Column, Schema, Scope, visible_column}
-use Rattle.jp_query.specs.Typing.{Typed, TypedOutput, TypedQuery, same_type, type_of, typed_query, expr_type, tree_typed, order_typed, output_typed, query_typed}
+use Rattle.jp_query.specs.Typing.{Typed, TypedOutput, TypedQuery, type_of, typed_query, expr_type, tree_typed, order_typed, output_typed, query_typed}
 use Rattle.jp_query.proofs.FoldLaws as laws
-use Rattle.jp_induction.proofs.EachPart.{Each, all_of_each, each_append, each_in_all, each_in_parts, each_map, each_mapped}
-use Rattle.jp_facts.proofs.Members.{In, in_append_left, in_append_right}
+use Rattle.jp_induction.proofs.EachPart.{Each, each_append, each_in_all, each_in_parts, each_map, each_mapped}
 use Rattle.jp_resolution.specs.declared.words.Selection.{Selection}
 use Rattle.jp_resolution.specs.Counting.{none}
 use Rattle.jp_resolution.specs.Resolving.{query_of}
 use Rattle.jp_resolution.specs.Schemas.{schema_of}
 use Rattle.jp_resolved.specs.Sorted.{expr_of_output, expr_of_order}
-use Rattle.jp_resolved.proofs.Made.{MadeExprs, exprs_have, trees_have}
+use Rattle.jp_resolved.proofs.Made.{exprs_have, trees_have}
 use Rattle.jp_resolved.proofs.Operands.{along_each}
 use Rattle.jp_resolved.proofs.Found.{same_self}
 use Rattle.jp_resolved.proofs.Seen.{seen_all}
-use Rattle.jp_resolved.proofs.Rising.{Rising, IsBetween, rising_append, rising_between, rising_wider}
+use Rattle.jp_resolved.proofs.Rising.{Rising, IsBetween, rising_append}
 use Rattle.jp_resolved.proofs.Selections.{level_of, select_typed, typed_order}
 use Rattle.jp_resolved.proofs.Tops.{IsTop}
-use Rattle.jp_resolved.proofs.Wholes.{each_in, each_from, orders_have}
+use Rattle.jp_resolved.proofs.Wholes.{orders_have}
 use Rattle.jp_resolved.proofs.Passing.{Takes, Passes, ExprPasses, TreePasses, SelectPasses, select_passes, passing}
 use Rattle.jp_resolved.proofs.Gathering as gather
 use Rattle.jp_resolved.proofs.Rooted.{IsRooted, ExprRooted, TreeRooted, SelectRooted, select_rooted, rooting}
-use Rattle.jp_resolved.proofs.Leaving as leave
 
 -- ---- the tests
 
@@ -204,6 +202,7 @@ module _ (catalog : Catalog) (s : Selection) (items : List Order) (t : IsTop cat
       where
         end_low : t.selection.end.entries ≤ 12
         end_low = omega (arith, t.selection.high, t.middle_few)
+
         first_low : t.selection.middle.entries ≤ 12
         first_low = omega (arith, t.selection.inner, t.selection.high, t.middle_few)
 

@@ -1,5 +1,5 @@
 -- Whatever a whole part of a statement stands for is made: an induction over the statement's tree.
-use Rattle.std.proofs.Common.{◌≡◌, ◌∙◌, ap, ap₂, sym, subst, refl, ℕ, Bool, true, false, List, [], ◌∷◌, ◌++◌, map, Option, Some, None, Ok, Err}
+use Rattle.std.proofs.Common.{◌≡◌, ◌∙◌, sym, subst, refl, ℕ, Bool, true, List, [], ◌∷◌, map, Option, Some, None, Ok}
 use Rattle.std.specs.Prelude.{◌&&◌}
 use Rattle.std.specs.List.{list_all}
 use Rattle.std.proofs.lemmas.Bool.{and_parts, false≢true}
@@ -14,7 +14,7 @@ use Rattle.jp_ast.specs.declared.tree.JoinWord.TheVariants as join_word
 use Rattle.jp_ast.specs.declared.tree.Ast.TheOpen.{Ast-F, FromItem-F, Target-F, Select-F}
 use Rattle.jp_ast.specs.declared.tree.Ast.TheShapes.{former-Ast-Case-0, former-FromItem-Join-3}
 use Rattle.jp_ast.specs.declared.tree.Ast.TheViews.{roll-Ast, roll-FromItem, roll-Target, roll-Select}
-use Rattle.jp_ast.specs.declared.tree.Ast.TheFolds.{map-Ast, map-FromItem, map-Target, map-Select, ind-Ast, ind-FromItem, ind-Target, ind-Select, fold-roll-Ast, fold-roll-FromItem, fold-roll-Target, fold-roll-Select}
+use Rattle.jp_ast.specs.declared.tree.Ast.TheFolds.{map-Ast, map-FromItem, map-Target, map-Select, ind-Ast, ind-Select, fold-roll-Ast, fold-roll-FromItem, fold-roll-Target, fold-roll-Select}
 use Rattle.jp_statements.specs.Layers.{itself, in_term}
 use Rattle.jp_statements.specs.Whole.{has_one, has_two, arm_passes, maybe_passes, fits_join, ast_whole, item_whole, target_whole, select_whole, is_whole_ast, is_whole_item, is_whole_target, is_whole_select}
 use Rattle.jp_query.specs.declared.Expr.{Expr}
@@ -24,8 +24,8 @@ use Rattle.jp_query.specs.Scopes.{Schema}
 use Rattle.jp_resolution.specs.declared.words.Counts.{Counts}
 use Rattle.jp_resolution.specs.declared.words.Selection.{Selection}
 use Rattle.jp_resolution.specs.declared.words.TypedExpr.{TypedExpr}
-use Rattle.jp_resolution.specs.Counting.{Levels, Part, simply, given, beside, listed, optional, sublinked}
-use Rattle.jp_resolution.specs.Resolving.{AstMeant, ItemMeant, Targets, part_of, parts_of, maybe_part, term_of, arm_of, case_of, case_parts, name_over, qualified_over, exists_node, in_select_node, ast_part, ast_meant, item_meant, target_meant, select_meant, condition_of, targets_of, output_name, one_output, all_columns, all_columns_of, meant_by, item_by, target_by, select_by, with_sign}
+use Rattle.jp_resolution.specs.Counting.{Levels, Part, beside, listed, sublinked}
+use Rattle.jp_resolution.specs.Resolving.{AstMeant, ItemMeant, Targets, part_of, maybe_part, term_of, arm_of, case_of, case_parts, name_over, qualified_over, exists_node, in_select_node, ast_part, ast_meant, item_meant, target_meant, select_meant, condition_of, targets_of, output_name, one_output, all_columns, all_columns_of, meant_by, item_by, target_by, select_by, with_sign}
 use Rattle.jp_resolution.specs.Schemas.{schema_of}
 use Rattle.jp_resolution.specs.Types.{can_be, expr_as, condition, number_literal, text_literal, truth_literal, null_literal, sign_node, sum_node, product_node, concat_node, compare_node, between_node, in_list_node, and_node, or_node, not_node, is_node, coalesce_node}
 use Rattle.jp_query.specs.Parts.{term_part}
@@ -36,11 +36,11 @@ use Rattle.jp_resolved.proofs.Seen.{scope_of}
 use Rattle.jp_resolved.proofs.Found.{Found}
 use Rattle.jp_resolved.proofs.Nodes.{number_is, text_is, truth_is, null_is}
 use Rattle.jp_resolved.proofs.Operators.{product_is, concat_is, and_is, or_is, coalesce_is, sum_is, sign_is, not_is, is_is, compare_is, between_is, in_list_is}
-use Rattle.jp_resolved.proofs.CaseNodes.{FoundArm, FoundOption, case_is}
-use Rattle.jp_resolved.proofs.Parts.{IsPlace, Claim, Good, simply_good, given_good, Two, beside_good, Several, Some_of, some_good, Maybe, none_good, there_good, Sublinked, sublinked_good}
+use Rattle.jp_resolved.proofs.CaseNodes.{FoundOption, case_is}
+use Rattle.jp_resolved.proofs.Parts.{Claim, Good, simply_good, given_good, Two, beside_good, Some_of, some_good, Maybe, none_good, there_good, Sublinked, sublinked_good}
 use Rattle.jp_resolved.proofs.Conjuncts.{AreConditions, conjuncts_made}
 use Rattle.jp_resolved.proofs.Made.{no_exprs}
-use Rattle.jp_resolved.proofs.Selections.{IsSelection, exists_is, in_select_is}
+use Rattle.jp_resolved.proofs.Selections.{exists_is, in_select_is}
 use Rattle.jp_resolved.proofs.Sources.{GoodItem, ConditionsAt, table_good, sub_good, join_good}
 use Rattle.jp_resolved.proofs.Targets.{FoundAt, SelectedAt, name_is, qualified_is, all_columns_are, columns_of_are, one_is, targets_good}
 use Rattle.jp_resolved.proofs.Selects.{SelectionAt, select_good}
@@ -298,9 +298,9 @@ module _ (catalog : Catalog) where
       let d = maybe_part (box_meant (box_ast otherwise)) in
       given_good (Two (Maybe FoundHere) (Two (Some_of ArmHere) (Maybe FoundHere))) FoundHere (beside o (beside (listed l) d)) (case_of at)
       (beside_good (Maybe FoundHere) (Two (Some_of ArmHere) (Maybe FoundHere)) o (beside (listed l) d) (maybe_good operand first.0)
-          (beside_good (Some_of ArmHere) (Maybe FoundHere) (listed l) d (some_good ArmHere l (arms_listed arms each.0) (arms_good arms each.1)) (maybe_good otherwise second.1)))
+      (beside_good (Some_of ArmHere) (Maybe FoundHere) (listed l) d (some_good ArmHere l (arms_listed arms each.0) (arms_good arms each.1)) (maybe_good otherwise second.1)))
       (λ levels a b parts e found g.
-          case_is schema (scope_of levels) a found.0 found.2.0 b at (case_parts parts) e found.2.1.0 (option_found levels a found.0 parts.0 found.1) found.2.1.1 (option_found levels found.2.0 b parts.1.1 found.2.2) g)
+      case_is schema (scope_of levels) a found.0 found.2.0 b at (case_parts parts) e found.2.1.0 (option_found levels a found.0 parts.0 found.1) found.2.1.1 (option_found levels found.2.0 b parts.1.1 found.2.2) g)
 
   -- ---- FROM items
 

@@ -1,5 +1,5 @@
 -- What every expression of a statement's query has, where its select's and the ones that its ORDER BY makes have it.
-use Rattle.std.proofs.Common.{◌≡◌, ap, sym, subst, refl, ◌⊎◌, inl, inr, Bool, true, false, List, [], ◌∷◌, ◌++◌, map}
+use Rattle.std.proofs.Common.{subst, refl, inl, inr, Bool, List, [], ◌∷◌, map}
 use Rattle.jp_catalog.specs.declared.types.Catalog.{Catalog}
 use Rattle.jp_query.specs.declared.Expr.{Expr}
 use Rattle.jp_query.specs.declared.Order.{Order}

@@ -1,5 +1,5 @@
 -- What ORDER BY sorts by under DISTINCT.
-use Rattle.std.specs.Prelude.{◌≡◌, true, List, map, All, Contains}
+use Rattle.std.specs.Prelude.{◌≡◌, true, map, All, Contains}
 use Rattle.jp_query.specs.declared.Expr.{Expr}
 use Rattle.jp_query.specs.declared.Order.{Order, out-Order}
 use Rattle.jp_query.specs.declared.Output.{Output, out-Output}
