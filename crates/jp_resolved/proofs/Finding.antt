@@ -1,5 +1,6 @@
 -- The sublinks of what is made have rising numbers.
-use Rattle.std.proofs.Common.{◌≡◌, ◌∙◌, ap, ap₂, sym, subst, refl, ℕ, suc, ◌+◌, ◌≤◌, true, List, [], ◌∷◌, ◌++◌, map, arith}
+use Rattle.std.proofs.Common.{◌≡◌, ◌∙◌, ap, ap₂, sym, subst, refl, ℕ, suc, ◌+◌, ◌≤◌, true, List, [], ◌∷◌, ◌++◌, map}
+use Rattle.std.proofs.Math.Nat.{le_refl}
 use Rattle.std.proofs.lemmas.Bool.{false≢true}
 use Rattle.std.proofs.lemmas.List.{append-nil}
 use Rattle.jp_ast.specs.declared.tree.JoinWord.{JoinWord}
@@ -23,7 +24,7 @@ use Rattle.jp_resolution.specs.declared.words.Counts.{Counts}
 use Rattle.jp_resolution.specs.Counting.{one_entry, both, next_relation, next_sublink}
 use Rattle.jp_resolution.specs.Resolving.{kind_of}
 use Rattle.jp_resolved.specs.Sorted.{expr_of_output, expr_of_order}
-use Rattle.jp_resolved.proofs.Spans.{Along}
+use Rattle.jp_resolved.proofs.Spans.{next_first, right_zero, Along}
 use Rattle.jp_resolved.proofs.Made.{is_operator, Steps, TreesAlong}
 use Rattle.jp_resolved.proofs.Operands.{no_sublink, operator_map}
 use Rattle.jp_resolved.proofs.Rising.{Rising, rising_append}
@@ -144,10 +145,7 @@ abbrev pub SelectFinds : Scope → Counts → Counts → QueryLayer → Type 0
 SelectFinds outer a b level = Rises a b (sublinks_in (roll-Query level))
 
 same_none : (a b : Counts) → a ≡ b → Rises a b []
-same_none a b same = subst (λ (c : Counts). suc a.sublinks ≤ suc c.sublinks) same (self (suc a.sublinks))
-  where
-    self : (n : ℕ) → n ≤ n
-    self n = omega arith
+same_none a b same = subst (λ (c : Counts). suc a.sublinks ≤ suc c.sublinks) same (le_refl (suc a.sublinks))
 
 pub all_along : (scope : Scope) (a b : Counts) (es : List Expr) → Along (ExprFinds scope) a b es → Rises a b (all_in (map sublinks_of es))
 all_along scope a b [] along = same_none a b along
@@ -177,12 +175,6 @@ select_finds outer own a m n b level members plain is outputs trees conds =
     let cs = all_in (map sublinks_of level.conds) in
     subst (Rises a b) (sym (query_is level members is ∙ ap (λ os. us ++ (ts ++ (cs ++ all_in (map sublinks_of (map expr_of_order os))))) plain ∙ ap (λ xs. us ++ (ts ++ xs)) (append-nil cs)))
     (body_rises outer own a m n b level members outputs trees conds)
-
-next_first : (n : ℕ) → suc n ≤ n + 1
-next_first n = omega arith
-
-right_zero : (n : ℕ) → n + 0 ≡ n
-right_zero n = omega arith
 
 more_none : (n m : ℕ) (xs : Found) → Rising sublink_number (suc (n + 0)) m xs → Rising sublink_number (suc n) m xs
 more_none n m xs h = subst (λ k. Rising sublink_number (suc k) m xs) (right_zero n) h

@@ -1,5 +1,5 @@
 -- The query that a statement stands for is fresh, and under DISTINCT it sorts by its outputs.
-use Rattle.std.proofs.Common.{◌≡◌, ap, ap₂, sym, subst, refl, ℕ, suc, ◌<◌, ◌≤◌, ◌⊎◌, inl, inr, true, false, List, [], ◌∷◌, ◌++◌, map, Ok, arith}
+use Rattle.std.proofs.Common.{◌≡◌, ap, ap₂, sym, subst, refl, ℕ, suc, ◌<◌, ◌≤◌, ◌⊎◌, inl, inr, true, List, [], ◌∷◌, ◌++◌, map, Ok, arith}
 use Rattle.std.specs.Prelude.{All, Contains}
 use Rattle.std.specs.List.{list_any}
 use Rattle.std.proofs.lemmas.Bool.{false≢true, or_cases}
@@ -7,7 +7,6 @@ use Rattle.jp_catalog.specs.declared.types.Catalog.{Catalog}
 use Rattle.jp_ast.specs.declared.tree.Stmt.{Stmt}
 use Rattle.jp_statements.specs.Whole.{is_whole}
 use Rattle.jp_query.specs.declared.Expr.{Expr}
-use Rattle.jp_query.specs.declared.Expr.TheOpen.{Expr-F}
 use Rattle.jp_query.specs.declared.Order.{Order}
 use Rattle.jp_query.specs.declared.Output.{Output}
 use Rattle.jp_query.specs.declared.Query.{Query, out-roll-Query}
@@ -31,26 +30,20 @@ use Rattle.jp_resolved.proofs.Seen.{seen_all}
 use Rattle.jp_resolved.proofs.Rising.{Rising, rising_append, rising_between, rising_within, rising_wider, rising_same, in_between}
 use Rattle.jp_resolved.proofs.Selections.{level_of}
 use Rattle.jp_resolved.proofs.Tops.{IsTop, IsChosen, top}
-use Rattle.jp_resolved.proofs.Wholes.{each_from, orders_have}
+use Rattle.jp_resolved.proofs.Members.{each_from, in_all}
+use Rattle.jp_resolved.proofs.Wholes.{orders_have}
 use Rattle.jp_resolved.proofs.Gathering as gather
 use Rattle.jp_resolved.proofs.Finding as find
 use Rattle.jp_resolved.proofs.Standing as stand
 use Rattle.jp_resolved.proofs.Paced as pace
 use Rattle.jp_resolved.proofs.Placed.{IsPart, all_placed}
-use Rattle.jp_resolved.proofs.TypedTops.{IsLow, Numbers, leaf_sources, gathers}
-use Rattle.jp_resolved.proofs.TypedQueries.{low_between}
+use Rattle.jp_resolved.proofs.TypedTops.{low_between, IsLow, Numbers, leaf_sources, gathers}
+use Rattle.jp_resolved.proofs.Operands.{no_placeholder}
 
 -- ---- no placeholder
 
-abbrev Level : Type 0
-Level = Expr-F (List ℕ) (List ℕ) (List ℕ) (List ℕ) (List ℕ)
-
 abbrev None_of : ℕ → ℕ → List ℕ → Type 0
 None_of a b xs = xs ≡ []
-
-no_placeholder : (x : Level) → gather.is_place x ≡ false → node_placeholder x ≡ []
-no_placeholder (Expr-F.Place inner rels) h = absurd (false≢true (sym h))
-no_placeholder _ h = refl
 
 placeholder_sources : (schema : Schema) → gather.Sources ℕ node_placeholder nothing_of_leaf schema None_of
 placeholder_sources schema = record {
@@ -80,11 +73,6 @@ IsFree n = ¬ ((32 ≤ n) × (n ≤ 46))
 low_free : (n : ℕ) → IsLow n → IsFree n
 low_free n low h = omega (arith, low, h.0)
 
-in_all : {X : Type 0} (f : Expr → List X) (e : Expr) (es : List Expr) (x : X) → In e es → In x (f e) → In x (all_in (map f es))
-in_all f e [] x h p = absurd h
-in_all f e (g ∷ es) x (inl same) p = in_append_left x (f g) (all_in (map f es)) (subst (λ k. In x (f k)) (sym same) p)
-in_all f e (g ∷ es) x (inr r) p = in_append_right x (f g) (all_in (map f es)) (in_all f e es x r p)
-
 module _ (catalog : Catalog) (s : Selection) (items : List Order) (t : IsTop catalog s items) where
   abbrev schema : Schema
   schema = schema_of catalog
@@ -99,7 +87,7 @@ module _ (catalog : Catalog) (s : Selection) (items : List Order) (t : IsTop cat
   placeholders = nothing (placeholders_in_query (query_of s items)) (gathers catalog s items t ℕ node_placeholder nothing_of_leaf None_of (placeholder_sources schema) Never never_each)
 
   leaves : All IsFree (leaves_in (query_of s items))
-  leaves = all_of_each IsFree (leaves_in (query_of s items)) (each_weaker IsLow IsFree low_free (leaves_in (query_of s items)) (gathers catalog s items t ℕ nothing_of_node leaf_number Numbers (leaf_sources schema) IsLow (low_between catalog s items t)))
+  leaves = all_of_each IsFree (leaves_in (query_of s items)) (each_weaker IsLow IsFree low_free (leaves_in (query_of s items)) (gathers catalog s items t ℕ nothing_of_node leaf_number Numbers (leaf_sources schema) IsLow low_between))
 
   -- ---- sublinks
 

@@ -1,7 +1,6 @@
 -- What is made gathers from its levels: nothing from its expressions, and from each leaf what stands at the leaf's number.
-use Rattle.std.proofs.Common.{◌≡◌, ◌∙◌, ap, ap₂, sym, subst, refl, ℕ, ◌+◌, Bool, true, false, List, [], ◌∷◌, ◌++◌, map, Some, arith}
+use Rattle.std.proofs.Common.{◌≡◌, ◌∙◌, ap, ap₂, sym, subst, refl, ℕ, ◌+◌, Bool, true, false, List, [], ◌∷◌, ◌++◌, map, Some}
 use Rattle.std.specs.List.{slice_get}
-use Rattle.std.proofs.lemmas.Bool.{false≢true}
 use Rattle.std.proofs.lemmas.List.{append-nil}
 use Rattle.jp_ast.specs.declared.tree.JoinWord.{JoinWord}
 use Rattle.jp_query.specs.Parts.{all_in, parts, option_part, sublink_query, expr_gives, tree_gives, order_gives, output_gives, query_gives, gathered, gathered_in_tree, gathered_in_query}
@@ -23,17 +22,9 @@ use Rattle.jp_resolution.specs.declared.words.Counts.{Counts}
 use Rattle.jp_resolution.specs.Counting.{next_relation, next_sublink}
 use Rattle.jp_resolution.specs.Resolving.{kind_of}
 use Rattle.jp_resolved.specs.Sorted.{expr_of_output, expr_of_order}
-use Rattle.jp_resolved.proofs.Spans.{Along}
+use Rattle.jp_resolved.proofs.Spans.{right_zero, Along}
 use Rattle.jp_resolved.proofs.Made.{is_operator, Steps, TreesAlong}
-use Rattle.jp_resolved.proofs.Operands.{no_sublink, operator_map}
-
-abbrev pub is_place : {A B C D F : Type 0} → Expr-F A B C D F → Bool
-is_place (Expr-F.Place inner rels) = true
-is_place _ = false
-
-operator_no_place : {A B C D F : Type 0} (x : Expr-F A B C D F) → is_operator x ≡ true → is_place x ≡ false
-operator_no_place (Expr-F.Place inner rels) h = absurd (false≢true h)
-operator_no_place _ h = refl
+use Rattle.jp_resolved.proofs.Operands.{is_place, operator_no_place, no_sublink, operator_map}
 
 abbrev pub is_leaf : {A B C D F : Type 0} → JoinTree-F A B C D F → Bool
 is_leaf (JoinTree-F.Base rel name table) = true
@@ -144,9 +135,6 @@ module _ (X : Type 0) (of_node : Expr-F (List X) (List X) (List X) (List X) (Lis
 
     more_none : (n m : ℕ) (xs : List X) → Q (n + 0) m xs → Q n m xs
     more_none n m xs h = subst (λ k. Q k m xs) (right_zero n) h
-      where
-        right_zero : (n : ℕ) → n + 0 ≡ n
-        right_zero n = omega arith
 
     select_gives : (outer own : Scope) (a m n b : Counts) (level : QueryLayer) (members : List JoinTree) → level.order ≡ [] → level.tree ≡ tree.From members [] → Along (ExprGives (own ++ outer)) a m (map expr_of_output level.columns) → TreesAlong (TreeGives outer) m n own members → Along (ExprGives (own ++ outer)) n b level.conds → SelectGives outer a b level
     select_gives outer own a m n b level members plain is outputs trees conds =

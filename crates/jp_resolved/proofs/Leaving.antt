@@ -1,5 +1,6 @@
 -- The leaves of what is made have rising numbers, so each two are apart; those of an expression stand inside its sublinks.
-use Rattle.std.proofs.Common.{◌≡◌, ◌∙◌, ap, ap₂, sym, subst, refl, ℕ, ◌+◌, ◌<◌, ◌≤◌, inl, inr, Bool, true, false, List, [], ◌∷◌, ◌++◌, map, fold, append_assoc, arith}
+use Rattle.std.proofs.Common.{◌≡◌, ◌∙◌, ap, ap₂, sym, subst, refl, ℕ, ◌+◌, ◌<◌, ◌≤◌, Bool, true, false, List, [], ◌∷◌, ◌++◌, map, fold, append_assoc, arith}
+use Rattle.std.proofs.Math.Nat.{le_refl}
 use Rattle.std.specs.Prelude.{◌&&◌, ◌||◌, ◌==◌, not}
 use Rattle.std.specs.List.{list_all, list_any}
 use Rattle.std.proofs.lemmas.Bool.{and_from, false≢true, ne_eqb, eq-eqb, eqb-true}
@@ -8,7 +9,7 @@ use Rattle.jp_query.specs.Conditions.{Leaf, Leaves, no_leaves, beside, together,
 use Rattle.jp_query.specs.Parts.{all_in, parts}
 use Rattle.jp_query.specs.Typing.{is_listed}
 use Rattle.jp_induction.proofs.EachPart.{Each, parts_map, each_append}
-use Rattle.jp_facts.proofs.Members.{In, in_append_left, in_append_right}
+use Rattle.jp_facts.proofs.Members.{In}
 use Rattle.jp_query.specs.declared.Expr.{Expr}
 use Rattle.jp_query.specs.declared.Expr.TheOpen.{Expr-F}
 use Rattle.jp_query.specs.declared.Expr.TheViews.{roll-Expr, roll-Query}
@@ -25,10 +26,11 @@ use Rattle.jp_resolution.specs.declared.words.Counts.{Counts}
 use Rattle.jp_resolution.specs.Counting.{next_relation, next_sublink}
 use Rattle.jp_resolution.specs.Resolving.{kind_of}
 use Rattle.jp_resolved.specs.Sorted.{expr_of_output, expr_of_order}
-use Rattle.jp_resolved.proofs.Spans.{Along}
+use Rattle.jp_resolved.proofs.Spans.{right_zero, Along}
 use Rattle.jp_resolved.proofs.Made.{is_operator, Steps, TreesAlong}
 use Rattle.jp_resolved.proofs.Operands.{operator_map}
 use Rattle.jp_resolved.proofs.Rising.{Rising, IsBetween, rising_append, rising_between, rising_map, rising_same}
+use Rattle.jp_resolved.proofs.Members.{in_all}
 
 abbrev pub leaf_number : Leaf → ℕ
 leaf_number leaf = leaf.number
@@ -61,10 +63,7 @@ beside_apart a m b x y p q = record {
 }
 
 none_apart : (a b : Counts) → a ≡ b → AreApart a.entries b.entries no_leaves
-none_apart a b same = record { apart = refl; rising = subst (λ (c : Counts). a.entries ≤ c.entries) same (self a.entries) }
-  where
-    self : (n : ℕ) → n ≤ n
-    self n = omega arith
+none_apart a b same = record { apart = refl; rising = subst (λ (c : Counts). a.entries ≤ c.entries) same (le_refl a.entries) }
 
 -- ---- whole trees
 
@@ -132,17 +131,11 @@ each_inside sub (l ∷ ls) = (refl, each_inside sub ls)
 inside_apart : (sub a b : ℕ) (l : Leaves) → AreApart a b l → AreApart a b (leaves_inside sub l)
 inside_apart sub a b l h = record { apart = h.apart; rising = rising_map leaf_number leaf_number (leaf_inside sub) (λ x. refl) a b l.leaves h.rising }
 
-right_zero : (n : ℕ) → n + 0 ≡ n
-right_zero n = omega arith
-
 first_zero : (n m : ℕ) (l : Leaves) → AreApart (n + 0) m l → AreApart n m l
 first_zero n m l h = subst (λ k. AreApart k m l) (right_zero n) h
 
 leaf_apart : (n m : ℕ) → n < m → AreApart n m (leaf n)
-leaf_apart n m h = record { apart = refl; rising = (self n, h) }
-  where
-    self : (n : ℕ) → n ≤ n
-    self n = omega arith
+leaf_apart n m h = record { apart = refl; rising = (le_refl n, h) }
 
 both_inside : (x y : Leaves) → Each IsInside x.leaves → Each IsInside y.leaves → Each IsInside (beside x y).leaves
 both_inside x y p q = each_append IsInside x.leaves y.leaves p q
@@ -205,17 +198,15 @@ leaving schema = record {
 
 -- ---- ORDER BY items that repeat
 
-leaves_from : (done : Leaves) (ls : List Leaves) → (fold beside done ls).leaves ≡ done.leaves ++ all_in (map (λ (l : Leaves). l.leaves) ls)
-leaves_from done [] = sym (append-nil done.leaves)
-leaves_from done (l ∷ ls) = leaves_from (beside done l) ls ∙ append_assoc done.leaves l.leaves (all_in (map (λ (l : Leaves). l.leaves) ls))
+abbrev leaves_of : Expr → List Leaf
+leaves_of e = (of_expr e).leaves
 
-in_all : (e : Expr) (es : List Expr) (x : Leaf) → In e es → In x (of_expr e).leaves → In x (all_in (map (λ (l : Leaves). l.leaves) (map of_expr es)))
-in_all e [] x h p = absurd h
-in_all e (f ∷ es) x (inl same) p = in_append_left x (of_expr f).leaves (all_in (map (λ (l : Leaves). l.leaves) (map of_expr es))) (subst (λ g. In x (of_expr g).leaves) (sym same) p)
-in_all e (f ∷ es) x (inr r) p = in_append_right x (of_expr f).leaves (all_in (map (λ (l : Leaves). l.leaves) (map of_expr es))) (in_all e es x r p)
+leaves_from : (done : Leaves) (es : List Expr) → (fold beside done (map of_expr es)).leaves ≡ done.leaves ++ all_in (map leaves_of es)
+leaves_from done [] = sym (append-nil done.leaves)
+leaves_from done (e ∷ es) = leaves_from (beside done (of_expr e)) es ∙ append_assoc done.leaves (leaves_of e) (all_in (map leaves_of es))
 
 pub in_together : (e : Expr) (es : List Expr) (x : Leaf) → In e es → In x (of_expr e).leaves → In x (together (map of_expr es)).leaves
-in_together e es x h p = subst (In x) (sym (leaves_from no_leaves (map of_expr es))) (in_all e es x h p)
+in_together e es x h p = subst (In x) (sym (leaves_from no_leaves es)) (in_all leaves_of e es x h p)
 
 -- a leaf of the list, inside a sublink
 abbrev pub IsKnown : List Leaf → Leaf → Type 0

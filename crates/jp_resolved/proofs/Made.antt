@@ -11,9 +11,10 @@ use Rattle.jp_query.specs.declared.Expr.TheOpen.{Expr-F}
 use Rattle.jp_query.specs.Layers.{ExprLayer, QueryLayer}
 use Rattle.jp_query.specs.Conditions.{fits, has_distinct_numbers}
 use Rattle.jp_query.specs.Parts.{parts}
-use Rattle.jp_query.specs.Scopes.{Column, Schema, Scope, visible_column, bound_of, columns_of_query}
+use Rattle.jp_query.specs.Scopes.{join_entries, Column, Schema, Scope, visible_column, bound_of, columns_of_query}
 use Rattle.jp_query.specs.Typing.{is_listed}
 use Rattle.jp_ast.specs.declared.tree.JoinWord.{JoinWord}
+use Rattle.jp_ast.specs.declared.tree.JoinWord.TheVariants as join_word
 use Rattle.jp_resolution.specs.declared.words.Counts.{Counts}
 use Rattle.jp_resolution.specs.Counting.{one_entry, one_sublink, both, next_relation, next_sublink}
 use Rattle.jp_resolution.specs.Resolving.{kind_of}
@@ -105,3 +106,11 @@ module _ (schema : Schema) (PE : Scope → Counts → Counts → Expr → Type 0
       pub select_has : (outer : Scope) (a b : Counts) (level : QueryLayer) → level.order ≡ [] → MadeSelect schema outer a b level → PQ outer a b level
       select_has s1 a1 b1 l1 plain (select outer a m n b own level members some is apart outputs trees conds) =
           steps.at_select outer a m n b own level members plain some is apart (exprs_have (own ++ outer) a m (map expr_of_output level.columns) outputs) (trees_have outer m n own members trees) (exprs_have (own ++ outer) n b level.conds conds)
+
+-- a join of a statement gives rows to the entries of both sides
+pub sides_of : (kind : JoinWord) (l r : Scope) → join_entries (kind_of kind) l r ≡ l ++ r
+sides_of join_word.Cross l r = refl
+sides_of join_word.Inner l r = refl
+sides_of join_word.Left l r = refl
+sides_of join_word.Right l r = refl
+sides_of join_word.Full l r = refl

@@ -1,5 +1,5 @@
 -- What stands directly at an operator's level, and lists along spans.
-use Rattle.std.proofs.Common.{◌≡◌, refl, true, List, [], ◌∷◌}
+use Rattle.std.proofs.Common.{Bool, true, false, ◌≡◌, sym, refl, List, [], ◌∷◌}
 use Rattle.std.proofs.lemmas.Bool.{false≢true}
 use Rattle.jp_query.specs.declared.Expr.TheOpen.{Expr-F}
 use Rattle.jp_query.specs.declared.Expr.TheFolds.{map-Expr}
@@ -9,13 +9,21 @@ use Rattle.jp_induction.proofs.EachPart.{Each}
 use Rattle.jp_resolved.proofs.Spans.{Along}
 use Rattle.jp_resolved.proofs.Made.{is_operator}
 
+abbrev pub is_place : {A B C D F : Type 0} → Expr-F A B C D F → Bool
+is_place (Expr-F.Place inner rels) = true
+is_place _ = false
+
+pub operator_no_place : {A B C D F : Type 0} (x : Expr-F A B C D F) → is_operator x ≡ true → is_place x ≡ false
+operator_no_place (Expr-F.Place inner rels) h = absurd (false≢true h)
+operator_no_place _ h = refl
+
 module _ {A B C D F : Type 0} where
   pub no_column : (x : Expr-F A B C D F) → is_operator x ≡ true → node_column x ≡ []
   no_column (Expr-F.Col rel col ty nulled) h = absurd (false≢true h)
   no_column _ h = refl
 
-  pub no_placeholder : (x : Expr-F A B C D F) → is_operator x ≡ true → node_placeholder x ≡ []
-  no_placeholder (Expr-F.Place inner rels) h = absurd (false≢true h)
+  pub no_placeholder : (x : Expr-F A B C D F) → is_place x ≡ false → node_placeholder x ≡ []
+  no_placeholder (Expr-F.Place inner rels) h = absurd (false≢true (sym h))
   no_placeholder _ h = refl
 
   pub no_sublink : (x : Expr-F A B C D F) → is_operator x ≡ true → option_part (sublink_query x) ≡ []

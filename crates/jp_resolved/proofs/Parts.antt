@@ -18,6 +18,12 @@ pub record IsPlace (levels : Levels) (a b : Counts) : Type 0 where
 pub place_narrower : (levels : Levels) (a b c d : Counts) → a.entries ≤ c.entries → d.entries ≤ b.entries → IsPlace levels a b → IsPlace levels c d
 place_narrower levels a b c d low high place = record { opened = open_narrower a.entries b.entries c.entries d.entries (scope_of levels) low high place.opened; few = omega (arith, high, place.few) }
 
+left_place : (levels : Levels) (before c d : Counts) → IsPlace levels before (both before (both c d)) → IsPlace levels before (both before c)
+left_place levels before c d place = place_narrower levels before (both before (both c d)) before (both before c) (omega arith) (omega arith) place
+
+right_place : (levels : Levels) (before c d : Counts) → IsPlace levels before (both before (both c d)) → IsPlace levels (both before c) (both (both before c) d)
+right_place levels before c d place = place_narrower levels before (both before (both c d)) (both before c) (both (both before c) d) (omega arith) (omega arith) place
+
 -- what is claimed of what a part gives
 abbrev pub Claim : Type 0 → Type 1
 Claim A = Levels → Counts → Counts → A → Type 0
@@ -38,12 +44,6 @@ module _ {A B : Type 0} (P : Claim A) (Q : Claim B) where
   -- one behind the other
   abbrev pub Two : Claim (A × B)
   Two levels a b pair = (m : Counts) × P levels a m pair.0 × Q levels m b pair.1
-
-  left_place : (levels : Levels) (before c d : Counts) → IsPlace levels before (both before (both c d)) → IsPlace levels before (both before c)
-  left_place levels before c d place = place_narrower levels before (both before (both c d)) before (both before c) (omega arith) (omega arith) place
-
-  right_place : (levels : Levels) (before c d : Counts) → IsPlace levels before (both before (both c d)) → IsPlace levels (both before c) (both (both before c) d)
-  right_place levels before c d place = place_narrower levels before (both before (both c d)) (both before c) (both (both before c) d) (omega arith) (omega arith) place
 
   pub beside_good : (left : Part A) (right : Part B) → Good P left → Good Q right → Good Two (beside left right)
   beside_good left right l r levels before pair place e =
@@ -66,10 +66,10 @@ module _ {A : Type 0} (P : Claim A) where
   all_good (part ∷ parts) each levels before xs place e =
       let x = then_parts (part.over levels before) (λ x. all_over parts levels (both before part.counts) >>= (λ xs. Ok (x ∷ xs))) xs e in
       let more = then_parts (all_over parts levels (both before part.counts)) (λ xs. Ok (x.0 ∷ xs)) xs x.2 in
-      let rest = all_good parts each.1 levels (both before part.counts) more.0 (right_place P P levels before part.counts (counts_of_all parts) place) more.1 in
+      let rest = all_good parts each.1 levels (both before part.counts) more.0 (right_place levels before part.counts (counts_of_all parts) place) more.1 in
       subst (Several levels before (both before (both part.counts (counts_of_all parts)))) (same_Ok (x.0 ∷ more.0) xs more.2) (
         both before part.counts,
-        each.0 levels before x.0 (left_place P P levels before part.counts (counts_of_all parts) place) x.1,
+        each.0 levels before x.0 (left_place levels before part.counts (counts_of_all parts) place) x.1,
         subst (λ b. Several levels (both before part.counts) b more.0) (both_assoc before part.counts (counts_of_all parts)) rest,
       )
 
@@ -109,5 +109,5 @@ module _ {A : Type 0} (P : Claim A) where
       subst (Sublinked levels before (both before (both one_sublink part.counts))) (same_Ok (next_sublink before, found.0) y found.2) (
         refl,
         subst (λ b. P levels (both before one_sublink) b found.0) (both_assoc before one_sublink part.counts)
-            (good levels (both before one_sublink) found.0 (right_place P P levels before one_sublink part.counts place) found.1),
+            (good levels (both before one_sublink) found.0 (right_place levels before one_sublink part.counts place) found.1),
       )

@@ -5,7 +5,6 @@ use Rattle.std.specs.List.{list_all, slice_get, flat_map}
 use Rattle.std.proofs.lemmas.Bool.{and_from}
 use Rattle.std.proofs.lemmas.List.{append-nil}
 use Rattle.jp_ast.specs.declared.tree.JoinWord.{JoinWord}
-use Rattle.jp_ast.specs.declared.tree.JoinWord.TheVariants as join_word
 use Rattle.jp_query.specs.declared.Expr.{Expr}
 use Rattle.jp_query.specs.declared.Expr.TheVariants as expr
 use Rattle.jp_query.specs.declared.Expr.TheViews.{roll-Expr, roll-Query}
@@ -18,7 +17,7 @@ use Rattle.jp_query.specs.declared.Query.{Query}
 use Rattle.jp_query.specs.Conditions.{Tests, Judged, ExprLevel, passes_in, judged_bound, all_entries, expr_judged, tree_judged, order_judged, output_judged, query_judged, judged_expr, judged_tree, judged_query, fits, has_distinct_numbers}
 use Rattle.jp_query.specs.Layers.{ExprLayer, QueryLayer}
 use Rattle.jp_query.specs.Parts.{parts, option_part, sublink_query, node_column, node_placeholder}
-use Rattle.jp_query.specs.Scopes.{Column, Entry, Scope, Schema, in_scope, visible_column, columns_of_table, join_entries, bound_of_column, bound_of, columns_of_query}
+use Rattle.jp_query.specs.Scopes.{Column, Entry, Scope, Schema, in_scope, visible_column, columns_of_table, bound_of_column, bound_of, columns_of_query}
 use Rattle.jp_query.proofs.FoldLaws as laws
 use Rattle.jp_induction.proofs.EachPart.{Each, parts_map}
 use Rattle.jp_laws.proofs.JudgedValues.{bound_judged, columns_judged}
@@ -26,8 +25,9 @@ use Rattle.jp_resolution.specs.declared.words.Counts.{Counts}
 use Rattle.jp_resolution.specs.Counting.{next_relation, next_sublink}
 use Rattle.jp_resolution.specs.Resolving.{kind_of}
 use Rattle.jp_resolved.specs.Sorted.{expr_of_output, expr_of_order}
-use Rattle.jp_resolved.proofs.Made.{is_operator, Steps, TreesAlong}
-use Rattle.jp_resolved.proofs.Operands.{no_column, no_placeholder, no_sublink, operator_map, along_each}
+use Rattle.jp_resolved.proofs.Made.{sides_of, is_operator, Steps, TreesAlong}
+use Rattle.jp_resolved.proofs.Operands.{operator_no_place, no_column, no_placeholder, no_sublink, operator_map, along_each}
+use Rattle.jp_resolved.proofs.Nodes.{fits_zero}
 
 -- what the test takes
 pub record Takes (tests : Tests) : Type 0 where
@@ -63,9 +63,6 @@ module _ (schema : Schema) (tests : Tests) (takes : Takes tests) where
 
   zero_passes : tests.bound 0 ≡ true
   zero_passes = takes.bounds 0 fits_zero
-    where
-      fits_zero : fits 0 ≡ true
-      fits_zero = refl
 
   -- ---- expressions
 
@@ -89,7 +86,7 @@ module _ (schema : Schema) (tests : Tests) (takes : Takes tests) where
       ∙ ap (λ n. tests.bound n && (list_all (tests.column scope) (node_column level) && (list_all (tests.placeholder scope) (node_placeholder level) && (list_all (passes_in scope) (parts level) && list_all (passes_in scope) (option_part (sublink_query level)))))) bound
       ∙ ap (λ b. b && (list_all (tests.column scope) (node_column level) && (list_all (tests.placeholder scope) (node_placeholder level) && (list_all (passes_in scope) (parts level) && list_all (passes_in scope) (option_part (sublink_query level)))))) (takes.bounds (bound_of schema (roll-Expr x) scope) small)
       ∙ ap (λ cs. list_all (tests.column scope) cs && (list_all (tests.placeholder scope) (node_placeholder level) && (list_all (passes_in scope) (parts level) && list_all (passes_in scope) (option_part (sublink_query level))))) (no_column level op)
-      ∙ ap (λ ps. list_all (tests.placeholder scope) ps && (list_all (passes_in scope) (parts level) && list_all (passes_in scope) (option_part (sublink_query level)))) (no_placeholder level op)
+      ∙ ap (λ ps. list_all (tests.placeholder scope) ps && (list_all (passes_in scope) (parts level) && list_all (passes_in scope) (option_part (sublink_query level)))) (no_placeholder level (operator_no_place level op))
       ∙ ap (λ qs. list_all (passes_in scope) (parts level) && list_all (passes_in scope) qs) (no_sublink level op)
       ∙ ap (λ ps. list_all (passes_in scope) ps && true) (parts_map judged (judged_tree schema tests) judged_order judged_output (judged_query schema tests) x)
       ∙ and_from (list_all (passes_in scope) (map judged (parts x))) true (all_pass scope (parts x) each) refl
@@ -121,13 +118,6 @@ module _ (schema : Schema) (tests : Tests) (takes : Takes tests) where
     ap (λ (j : Judged (List Entry)). j.passes outer) (laws.at-Sub (Judged ℕ) (Judged (List Entry)) (Judged ℕ) (Judged Column) (Judged (List Column)) (expr_judged schema tests) (tree_judged schema tests) (order_judged schema tests) (output_judged schema tests) (query_judged schema tests) rel name (roll-Query level)) ∙ and_from (tests.scope outer) ((judged_query schema tests (roll-Query level)).passes outer && true) (takes.scopes outer apart) (and_from ((judged_query schema tests (roll-Query level)).passes outer) true h refl),
   )
 
-  kinds : (kind : JoinWord) (l r : List Entry) → join_entries (kind_of kind) l r ≡ l ++ r
-  kinds join_word.Cross l r = refl
-  kinds join_word.Inner l r = refl
-  kinds join_word.Left l r = refl
-  kinds join_word.Right l r = refl
-  kinds join_word.Full l r = refl
-
   joined_passes : (outer : Scope) (a m n b : Counts) (kind : JoinWord) (l r : Scope) (left right : JoinTree) (on : List Expr) → has_distinct_numbers ((l ++ r) ++ outer) ≡ true → TreePasses outer a m l left → TreePasses outer m n r right → Each (Passes ((l ++ r) ++ outer)) on → TreePasses outer a b (l ++ r) (tree.Join (kind_of kind) left right on)
   joined_passes outer a m n b kind l r left right on apart p q each =
       let x = judged_tree schema tests left in
@@ -136,7 +126,7 @@ module _ (schema : Schema) (tests : Tests) (takes : Takes tests) where
       let both : x.value outer ++ y.value outer ≡ l ++ r = ap₂ (λ xs ys. xs ++ ys) p.0 q.0 in
       let seen : all_entries (x ∷ y ∷ []) outer ++ outer ≡ (l ++ r) ++ outer = ap (λ ys. (x.value outer ++ ys) ++ outer) (append-nil (y.value outer)) ∙ ap (λ xs. xs ++ outer) both in
       let conds = map judged on in (
-        ap (λ (j : Judged (List Entry)). j.value outer) rolled ∙ kinds kind (x.value outer) (y.value outer) ∙ both,
+        ap (λ (j : Judged (List Entry)). j.value outer) rolled ∙ sides_of kind (x.value outer) (y.value outer) ∙ both,
         ap (λ (j : Judged (List Entry)). j.passes outer) rolled
             ∙ ap (λ s. tests.scope s && (list_all (passes_in s) conds && (list_all (passes_in outer) (x ∷ y ∷ []) && true))) seen
             ∙ and_from (tests.scope ((l ++ r) ++ outer)) (list_all (passes_in ((l ++ r) ++ outer)) conds && (list_all (passes_in outer) (x ∷ y ∷ []) && true)) (takes.scopes ((l ++ r) ++ outer) apart)

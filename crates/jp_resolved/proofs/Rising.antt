@@ -2,6 +2,7 @@
 use Rattle.std.proofs.Common.{◌≡◌, ◌∙◌, ap, sym, subst, ℕ, suc, ◌<◌, ◌≤◌, inl, inr, List, [], ◌∷◌, ◌++◌, map, arith}
 use Rattle.jp_induction.proofs.EachPart.{Each}
 use Rattle.jp_facts.proofs.Members.{In}
+use Rattle.jp_resolved.proofs.Members.{each_in}
 
 module _ {X : Type 0} (number : X → ℕ) where
   abbrev pub Rising : ℕ → ℕ → List X → Type 0
@@ -34,9 +35,7 @@ module _ {X : Type 0} (number : X → ℕ) where
       ((h.0, omega (arith, later)), between_wider (suc (number x)) b a b (omega (arith, h.0)) (omega arith) xs (rising_between (suc (number x)) b xs h.1))
 
   pub in_between : (a b : ℕ) (x : X) (xs : List X) → Each (IsBetween a b) xs → In x xs → IsBetween a b x
-  in_between a b x [] each h = absurd h
-  in_between a b x (y ∷ ys) each (inl e) = subst (IsBetween a b) e each.0
-  in_between a b x (y ∷ ys) each (inr r) = in_between a b x ys each.1 r
+  in_between a b x xs each h = each_in (IsBetween a b) x xs each h
 
   -- two members of one number are one
   pub rising_same : (a b : ℕ) (xs : List X) → Rising a b xs → (x y : X) → In x xs → In y xs → number x ≡ number y → x ≡ y

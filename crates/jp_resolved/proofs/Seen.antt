@@ -2,7 +2,7 @@
 use Rattle.std.proofs.Common.{◌≡◌, ◌∙◌, ap, subst, refl, ℕ, suc, ◌+◌, ◌<◌, ◌≤◌, ◌⊎◌, inl, inr, Bool, true, false, List, [], ◌∷◌, ◌++◌, map, filter, cond, Option, Some, None, Ok, arith}
 use Rattle.std.specs.Prelude.{◌&&◌, ◌||◌, ◌==◌, not, if◌then◌else◌}
 use Rattle.std.specs.List.{list_any, slice_get, find, enumerate_from}
-use Rattle.std.proofs.lemmas.Bool.{and_parts, eq-eqb, ne_eqb, or_parts}
+use Rattle.std.proofs.lemmas.Bool.{or_from, and_parts, eq-eqb, ne_eqb, or_parts}
 use Rattle.std.proofs.lemmas.Option.{none-some, same_Some}
 use Rattle.jp_query.specs.Conditions.{fits, has_distinct_numbers, relation_of}
 use Rattle.jp_query.specs.Scopes.{Scope, visible_columns, visible_column}
@@ -65,19 +65,11 @@ pub record IsOwn (a b : ℕ) (own : Scope) : Type 0 where
 
 not_in : (n a b : ℕ) (own : Scope) → n < a → Rising relation_of a b own → list_any (◌==◌ n) (map relation_of own) ≡ false
 not_in n a b [] low h = refl
-not_in n a b (e ∷ own) low h = orb (n == e.relation) (list_any (◌==◌ n) (map relation_of own)) (ne_eqb n e.relation (λ s. omega (arith, s, low, h.0))) (not_in n (suc e.relation) b own (omega (arith, low, h.0)) h.1)
-  where
-    orb : (x y : Bool) → x ≡ false → y ≡ false → (x || y) ≡ false
-    orb true y p q = cc
-    orb false y p q = q
+not_in n a b (e ∷ own) low h = or_from (n == e.relation) (list_any (◌==◌ n) (map relation_of own)) (ne_eqb n e.relation (λ s. omega (arith, s, low, h.0))) (not_in n (suc e.relation) b own (omega (arith, low, h.0)) h.1)
 
 not_outside : (n a b : ℕ) (scope : Scope) → a ≤ n → n < b → Each (IsOutside a b) scope → list_any (◌==◌ n) (map relation_of scope) ≡ false
 not_outside n a b [] low high each = refl
-not_outside n a b (e ∷ scope) low high each = orb (n == e.relation) (list_any (◌==◌ n) (map relation_of scope)) (ne_eqb n e.relation (λ s. elim each.0 [ inl h ↦ omega (arith, s, low, h) | inr h ↦ omega (arith, s, high, h) ])) (not_outside n a b scope low high each.1)
-  where
-    orb : (x y : Bool) → x ≡ false → y ≡ false → (x || y) ≡ false
-    orb true y p q = cc
-    orb false y p q = q
+not_outside n a b (e ∷ scope) low high each = or_from (n == e.relation) (list_any (◌==◌ n) (map relation_of scope)) (ne_eqb n e.relation (λ s. elim each.0 [ inl h ↦ omega (arith, s, low, h) | inr h ↦ omega (arith, s, high, h) ])) (not_outside n a b scope low high each.1)
 
 any_append : (p : ℕ → Bool) (xs ys : Scope) → list_any p (map relation_of xs) ≡ false → list_any p (map relation_of ys) ≡ false → list_any p (map relation_of (xs ++ ys)) ≡ false
 any_append p [] ys h g = g

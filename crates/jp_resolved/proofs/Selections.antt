@@ -12,7 +12,7 @@ use Rattle.jp_query.specs.declared.Order.{Order}
 use Rattle.jp_query.specs.declared.Output.{Output, out-Output}
 use Rattle.jp_query.specs.declared.JoinTree.{JoinTree}
 use Rattle.jp_query.specs.declared.JoinTree.TheVariants as tree
-use Rattle.jp_query.specs.Conditions.{fits, has_distinct_numbers}
+use Rattle.jp_query.specs.Conditions.{has_distinct_numbers}
 use Rattle.jp_query.specs.Layers.{QueryLayer}
 use Rattle.jp_query.specs.Scopes.{Schema, Scope, BoundIn, EntriesIn, ColumnIn, ColumnsIn, in_scope, expr_bound, tree_entries, order_bound, output_column, query_columns, bound_of, entries_of, columns_of_query}
 use Rattle.jp_query.specs.Scopes as scopes
@@ -31,6 +31,7 @@ use Rattle.jp_resolved.proofs.Answered.{same_Ok, no_Ok, if_parts}
 use Rattle.jp_resolved.proofs.Made.{exists, among, MadeExprs, MadeTrees, MadeSelect, select}
 use Rattle.jp_resolved.proofs.Seen.{seen_columns, seen_all, FitsColumn, IsOwn}
 use Rattle.jp_resolved.proofs.Found.{same_self, IsExpr, Found, found_typed}
+use Rattle.jp_resolved.proofs.Nodes.{fits_zero}
 
 abbrev pub level_of : Selection → List Order → QueryLayer
 level_of s order = record { columns = s.outputs; distinct = s.distinct; tree = s.tree; conds = s.conds; order = order }
@@ -131,9 +132,6 @@ module _ (schema : Schema) where
   selection_columns outer a b s is = select_columns outer (seen_all s.entries) s [] is.entries ∙ is.columns
 
   -- ---- sublinks
-
-  fits_zero : fits 0 ≡ true
-  fits_zero = refl
 
   exists_made : (scope : Scope) (a b : Counts) (s : Selection) → IsSelection scope (both a one_sublink) b s → IsExpr schema scope a b ty.Boolean 0 (expr.Exists (next_sublink a) (query_of s []))
   exists_made scope a b s is = record {

@@ -1,5 +1,6 @@
 -- A select over FROM items, conditions and targets that are made.
-use Rattle.std.proofs.Common.{◌≡◌, ◌∙◌, ap, sym, subst, refl, ℕ, ◌≤◌, inl, inr, Bool, true, List, [], ◌∷◌, ◌++◌, map, Ok, arith}
+use Rattle.std.proofs.Common.{◌≡◌, ◌∙◌, ap, sym, subst, refl, ◌≤◌, inl, inr, Bool, true, List, [], ◌∷◌, ◌++◌, map, Ok, arith}
+use Rattle.std.proofs.Math.Nat.{le_refl}
 use Rattle.std.specs.List.{list_all}
 use Rattle.std.proofs.lemmas.Bool.{and_from, false≢true}
 use Rattle.jp_catalog.specs.declared.types.Catalog.{Catalog}
@@ -17,7 +18,7 @@ use Rattle.jp_resolution.specs.Resolving.{Selected, Targets, ItemMeant, Sources,
 use Rattle.jp_resolution.specs.Schemas.{schema_of}
 use Rattle.jp_induction.proofs.EachPart.{Each}
 use Rattle.jp_resolved.proofs.Answered.{same_Ok, then_parts}
-use Rattle.jp_resolved.proofs.Spans.{both_assoc, both_none}
+use Rattle.jp_resolved.proofs.Spans.{both_of_three, both_assoc, both_none}
 use Rattle.jp_resolved.proofs.Seen.{seen_all, scope_of, IsOpen, open_inside}
 use Rattle.jp_resolved.proofs.Parts.{IsPlace, place_narrower, Claim, Good}
 use Rattle.jp_resolved.proofs.Conjuncts.{AreConditions}
@@ -92,16 +93,10 @@ module _ (catalog : Catalog) where
       let z = then_parts (targets.over inner before) (λ outputs. Ok (selection distinct x.0 y.0 outputs)) s y.2 in
       let froms = items_good items each outer [] m x.0 (place_narrower outer before end m n (omega arith) (omega arith) place) x.1 in
       let own = seen_all x.0.entries in
-      let behind : IsOpen n.entries end.entries (own ++ scope_of outer) = open_inside before.entries end.entries m.entries n.entries n.entries end.entries own (scope_of outer) (omega arith) (omega arith) (omega arith) (omega arith) (inr (self n.entries)) place.opened froms.own in
-      let ahead : IsOpen before.entries m.entries (own ++ scope_of outer) = open_inside before.entries end.entries m.entries n.entries before.entries m.entries own (scope_of outer) (omega arith) (omega arith) (omega arith) (omega arith) (inl (self m.entries)) place.opened froms.own in
-      let same : both n cond.counts ≡ end = assoc before targets.counts counts cond.counts in
+      let behind : IsOpen n.entries end.entries (own ++ scope_of outer) = open_inside before.entries end.entries m.entries n.entries n.entries end.entries own (scope_of outer) (omega arith) (omega arith) (omega arith) (omega arith) (inr (le_refl n.entries)) place.opened froms.own in
+      let ahead : IsOpen before.entries m.entries (own ++ scope_of outer) = open_inside before.entries end.entries m.entries n.entries before.entries m.entries own (scope_of outer) (omega arith) (omega arith) (omega arith) (omega arith) (inl (le_refl m.entries)) place.opened froms.own in
+      let same : both n cond.counts ≡ end = both_of_three before targets.counts counts cond.counts in
       let conds = subst (λ b. AreConditions schema (scope_of inner) n b y.0) same (c inner n y.0 (record { opened = subst (λ b. IsOpen n.entries b.entries (scope_of inner)) (sym same) behind; few = omega (arith, place.few) }) y.1) in
       let outputs = good inner before z.0 (record { opened = ahead; few = omega (arith, place.few) }) z.1 in
       subst (IsSelection schema (scope_of outer) before end) (same_Ok (selection distinct x.0 y.0 z.0) s z.2)
       (selection_is distinct (scope_of outer) before m n end x.0 y.0 z.0 (trees_listed items outer [] m x.0 some x.1) behind.distinct (omega arith) (omega arith) (omega arith) outputs froms conds)
-    where
-      self : (n : ℕ) → n ≤ n
-      self n = omega arith
-
-      assoc : (a b c d : Counts) → both (both (both a b) c) d ≡ both a (both (both b c) d)
-      assoc a b c d = both_assoc (both a b) c d ∙ both_assoc a b (both c d) ∙ ap (both a) (sym (both_assoc b c d))

@@ -1,5 +1,6 @@
 -- FROM items that are made: tables, sub-selects and joins, with their entries.
-use Rattle.std.proofs.Common.{◌≡◌, ◌∙◌, ap, ap₂, sym, subst, refl, ℕ, suc, ◌+◌, ◌<◌, ◌≤◌, inr, Bool, true, List, [], ◌∷◌, ◌++◌, map, Option, Some, None, Ok, arith}
+use Rattle.std.proofs.Common.{◌≡◌, ◌∙◌, ap, ap₂, sym, subst, refl, ℕ, ◌<◌, ◌≤◌, inr, Bool, true, List, [], ◌∷◌, ◌++◌, map, Option, Some, None, Ok, arith}
+use Rattle.std.proofs.Math.Nat.{le_refl}
 use Rattle.std.specs.Prelude.{◌&&◌, nat_lt, option_map}
 use Rattle.std.specs.List.{list_all, slice_get, flat_map}
 use Rattle.std.proofs.lemmas.Bool.{and_from, lt-ltb}
@@ -11,12 +12,11 @@ use Rattle.jp_catalog.specs.declared.types.Catalog.{Catalog}
 use Rattle.jp_catalog.specs.declared.types.TableDef.{TableDef}
 use Rattle.jp_catalog.specs.Names.{place_of}
 use Rattle.jp_ast.specs.declared.tree.JoinWord.{JoinWord}
-use Rattle.jp_ast.specs.declared.tree.JoinWord.TheVariants as join_word
 use Rattle.jp_query.specs.declared.Expr.{Expr}
 use Rattle.jp_query.specs.declared.JoinTree.{JoinTree}
 use Rattle.jp_query.specs.declared.JoinTree.TheVariants as tree
-use Rattle.jp_query.specs.Conditions.{fits, has_distinct_numbers}
-use Rattle.jp_query.specs.Scopes.{Schema, Scope, BoundIn, EntriesIn, ColumnIn, ColumnsIn, in_scope, join_entries, columns_of_table, expr_bound, tree_entries, order_bound, output_column, query_columns, entries_of}
+use Rattle.jp_query.specs.Conditions.{fits, has_distinct_numbers, relation_of}
+use Rattle.jp_query.specs.Scopes.{Schema, Scope, BoundIn, EntriesIn, ColumnIn, ColumnsIn, in_scope, columns_of_table, expr_bound, tree_entries, order_bound, output_column, query_columns, entries_of}
 use Rattle.jp_query.specs.Typing.{Typed, TypedOutput, TypedQuery, is_true_test, are_conditions, tree_is_typed, typed_query, type_of, expr_type, tree_typed, order_typed, output_typed, query_typed}
 use Rattle.jp_query.proofs.FoldLaws as laws
 use Rattle.jp_resolution.specs.declared.words.Counts.{Counts}
@@ -28,10 +28,10 @@ use Rattle.jp_resolution.specs.Resolving.{Source, query_of, entry_name, leaf_nam
 use Rattle.jp_resolution.specs.Schemas.{schema_of, table_columns, schema_columns, schema_column, bound_of as bound_of_type}
 use Rattle.jp_induction.proofs.EachPart.{Each, each_append}
 use Rattle.jp_resolved.proofs.Answered.{same_Ok, no_Ok, then_parts, if_parts}
-use Rattle.jp_resolved.proofs.Spans.{both_assoc}
-use Rattle.jp_resolved.proofs.Made.{MadeExprs, MadeTree, base, sub, joined, MadeTrees, no_trees, more_trees}
+use Rattle.jp_resolved.proofs.Spans.{next_first, both_of_three, both_assoc}
+use Rattle.jp_resolved.proofs.Made.{sides_of, MadeExprs, MadeTree, base, sub, joined, MadeTrees, no_trees, more_trees}
 use Rattle.jp_resolved.proofs.Rising.{rising_append, rising_wider}
-use Rattle.jp_resolved.proofs.Seen.{seen_columns, seen_all, scope_of, FitsColumn, IsSmall, IsOwn, IsOpen, open_inside}
+use Rattle.jp_resolved.proofs.Seen.{seen, seen_columns, seen_all, scope_of, FitsColumn, IsSmall, IsOwn, IsOpen, open_inside}
 use Rattle.jp_resolved.proofs.Parts.{IsPlace, place_narrower, Claim, Good}
 use Rattle.jp_resolved.proofs.Conjuncts.{AreConditions}
 use Rattle.jp_resolved.proofs.Selections.{level_of, conditions_are, IsSelection, select_made, selection_typed, selection_columns}
@@ -83,22 +83,19 @@ module _ (schema : Schema) where
     pub own : IsOwn a.entries b.entries (seen_all entries)
 
   pub own_append : (a m b : ℕ) (xs ys : List Entry) → IsOwn a m (seen_all xs) → IsOwn m b (seen_all ys) → IsOwn a b (seen_all (xs ++ ys))
-  own_append a m b xs ys p q = subst (IsOwn a b) (sym (map-append _ xs ys)) (record {
-    rising = rising_append _ a m b (seen_all xs) (seen_all ys) p.rising q.rising;
+  own_append a m b xs ys p q = subst (IsOwn a b) (sym (map-append seen xs ys)) (record {
+    rising = rising_append relation_of a m b (seen_all xs) (seen_all ys) p.rising q.rising;
     small = each_append IsSmall (seen_all xs) (seen_all ys) p.small q.small;
   })
 
   pub no_sources : (outer : Scope) (a b : Counts) → a ≡ b → AreSources outer a b [] []
-  no_sources outer a b same = record { made = no_trees outer a b same; typed = refl; sees = refl; own = record { rising = subst (λ c. a.entries ≤ c.entries) same (self a.entries); small = tt } }
-    where
-      self : (n : ℕ) → n ≤ n
-      self n = omega arith
+  no_sources outer a b same = record { made = no_trees outer a b same; typed = refl; sees = refl; own = record { rising = subst (λ c. a.entries ≤ c.entries) same (le_refl a.entries); small = tt } }
 
   pub more_sources : (outer : Scope) (a m b : Counts) (s : Source) (entries : List Entry) (trees : List JoinTree) → IsSource outer a m s → AreSources outer m b entries trees → AreSources outer a b (s.entries ++ entries) (s.tree ∷ trees)
   more_sources outer a m b s entries trees one more = record {
-    made = subst (λ own. MadeTrees schema outer a b own (s.tree ∷ trees)) (sym (map-append _ s.entries entries)) (more_trees outer a m b (seen_all s.entries) (seen_all entries) s.tree trees one.made more.made);
+    made = subst (λ own. MadeTrees schema outer a b own (s.tree ∷ trees)) (sym (map-append seen s.entries entries)) (more_trees outer a m b (seen_all s.entries) (seen_all entries) s.tree trees one.made more.made);
     typed = and_from (tree_is_typed s.tree) (list_all is_true_test (map tree_is_typed trees)) one.typed more.typed;
-    sees = ap₂ (λ xs ys. xs ++ ys) one.entries more.sees ∙ sym (map-append _ s.entries entries);
+    sees = ap₂ (λ xs ys. xs ++ ys) one.entries more.sees ∙ sym (map-append seen s.entries entries);
     own = own_append a.entries m.entries b.entries s.entries entries one.own more.own;
   }
 
@@ -116,36 +113,23 @@ module _ (schema : Schema) where
         made = subst (λ cs. MadeTree schema outer a b (record { relation = rel; columns = cs } ∷ []) (tree.Sub rel name (query_of s []))) columns (sub outer a b name (level_of s []) refl distinct (select_made schema outer (both a one_entry) b s is []));
         typed = laws.at-Sub Typed Bool Typed TypedOutput TypedQuery expr_type tree_typed order_typed output_typed query_typed rel name (query_of s []) ∙ sub_typed rel (typed_query (query_of s [])) low (ap (λ (q : TypedQuery). q.is_typed) (selection_typed schema outer (both a one_entry) b s is));
         entries = ap (λ (f : EntriesIn). f outer) (laws.at-Sub BoundIn EntriesIn BoundIn ColumnIn ColumnsIn expr_bound (tree_entries schema) order_bound output_column query_columns rel name (query_of s [])) ∙ ap (λ cs. record { relation = rel; columns = cs } ∷ []) columns;
-        own = record { rising = (self a.entries, omega (arith, less)); small = ((low, is.fit), tt) };
+        own = record { rising = (le_refl a.entries, omega (arith, less)); small = ((low, is.fit), tt) };
       }
-    where
-      self : (n : ℕ) → n ≤ n
-      self n = omega arith
 
   -- ---- joins
-
-  kinds : (kind : JoinWord) (l r : Scope) → join_entries (kind_of kind) l r ≡ l ++ r
-  kinds join_word.Cross l r = refl
-  kinds join_word.Inner l r = refl
-  kinds join_word.Left l r = refl
-  kinds join_word.Right l r = refl
-  kinds join_word.Full l r = refl
 
   pub join_is : (outer : Scope) (a m n b : Counts) (kind : JoinWord) (l r : Source) (on : List Expr) → has_distinct_numbers (seen_all (l.entries ++ r.entries) ++ outer) ≡ true → n.entries ≤ b.entries → IsSource outer a m l → IsSource outer m n r → AreConditions schema (seen_all (l.entries ++ r.entries) ++ outer) n b on
       → IsSource outer a b (record { entries = l.entries ++ r.entries; tree = tree.Join (kind_of kind) l.tree r.tree on })
   join_is outer a m n b kind l r on distinct wide left right conds =
-      let whole = map-append _ l.entries r.entries in
+      let whole = map-append seen l.entries r.entries in
       let own = own_append a.entries m.entries n.entries l.entries r.entries left.own right.own in
       record {
         made = subst (λ own. MadeTree schema outer a b own (tree.Join (kind_of kind) l.tree r.tree on)) (sym whole)
             (joined outer a m n b kind (seen_all l.entries) (seen_all r.entries) l.tree r.tree on (subst (λ own. has_distinct_numbers (own ++ outer) ≡ true) whole distinct) left.made right.made (subst (λ own. MadeExprs schema (own ++ outer) n b on) whole conds.0));
         typed = laws.at-Join Typed Bool Typed TypedOutput TypedQuery expr_type tree_typed order_typed output_typed query_typed (kind_of kind) l.tree r.tree on ∙ and_from (tree_is_typed l.tree) (tree_is_typed r.tree && are_conditions (map type_of on)) left.typed (and_from (tree_is_typed r.tree) (are_conditions (map type_of on)) right.typed (conditions_are on conds.1));
-        entries = ap (λ (f : EntriesIn). f outer) (laws.at-Join BoundIn EntriesIn BoundIn ColumnIn ColumnsIn expr_bound (tree_entries schema) order_bound output_column query_columns (kind_of kind) l.tree r.tree on) ∙ kinds kind (entries_of schema l.tree outer) (entries_of schema r.tree outer) ∙ ap₂ (λ xs ys. xs ++ ys) left.entries right.entries ∙ sym whole;
-        own = record { rising = rising_wider _ a.entries n.entries a.entries b.entries (seen_all (l.entries ++ r.entries)) (self a.entries) wide own.rising; small = own.small };
+        entries = ap (λ (f : EntriesIn). f outer) (laws.at-Join BoundIn EntriesIn BoundIn ColumnIn ColumnsIn expr_bound (tree_entries schema) order_bound output_column query_columns (kind_of kind) l.tree r.tree on) ∙ sides_of kind (entries_of schema l.tree outer) (entries_of schema r.tree outer) ∙ ap₂ (λ xs ys. xs ++ ys) left.entries right.entries ∙ sym whole;
+        own = record { rising = rising_wider relation_of a.entries n.entries a.entries b.entries (seen_all (l.entries ++ r.entries)) (le_refl a.entries) wide own.rising; small = own.small };
       }
-    where
-      self : (n : ℕ) → n ≤ n
-      self n = omega arith
 
 -- ---- tables
 
@@ -160,14 +144,8 @@ module _ (catalog : Catalog) where
         made = subst (λ cs. MadeTree schema outer a (both a one_entry) (record { relation = rel; columns = cs } ∷ []) (tree.Base rel name place)) (sym same) (base outer a (both a one_entry) name place (schema_columns columns) refl distinct there);
         typed = laws.at-Base Typed Bool Typed TypedOutput TypedQuery expr_type tree_typed order_typed output_typed query_typed rel name place ∙ lt-ltb rel 64 low;
         entries = ap (λ (f : EntriesIn). f outer) (laws.at-Base BoundIn EntriesIn BoundIn ColumnIn ColumnsIn expr_bound (tree_entries schema) order_bound output_column query_columns rel name place) ∙ ap (λ o. record { relation = rel; columns = columns_of_table o } ∷ []) there ∙ ap (λ cs. record { relation = rel; columns = cs } ∷ []) (sym same);
-        own = record { rising = (self a.entries, next a.entries); small = ((low, subst (Each FitsColumn) (sym same) (table_fits columns)), tt) };
+        own = record { rising = (le_refl a.entries, next_first a.entries); small = ((low, subst (Each FitsColumn) (sym same) (table_fits columns)), tt) };
       }
-    where
-      self : (n : ℕ) → n ≤ n
-      self n = omega arith
-
-      next : (n : ℕ) → suc n ≤ n + 1
-      next n = omega arith
 
   abbrev pub GoodItem : ItemMeant → Type 0
   GoodItem item = (outer : Levels) (earlier : List Entry) (before : Counts) (s : Source) → IsPlace outer before (both before item.counts) → item.from outer earlier before ≡ Ok s → IsSource (schema_of catalog) (scope_of outer) before (both before item.counts) s
@@ -207,14 +185,8 @@ module _ (catalog : Catalog) where
       let left_is = l outer earlier before x.0 (place_narrower outer before end before m (omega arith) (omega arith) place) x.1 in
       let right_is = r outer (earlier ++ x.0.entries) m y.0 (place_narrower outer before end m n (omega arith) (omega arith) place) y.1 in
       let own = own_append schema before.entries m.entries n.entries x.0.entries y.0.entries left_is.own right_is.own in
-      let inside = open_inside before.entries end.entries before.entries n.entries n.entries end.entries (seen_all own_entries) (scope_of outer) (omega arith) (omega arith) (omega arith) (omega arith) (inr (self n.entries)) place.opened own in
-      let same : both n on.counts ≡ end = assoc before left.counts right.counts on.counts in
+      let inside = open_inside before.entries end.entries before.entries n.entries n.entries end.entries (seen_all own_entries) (scope_of outer) (omega arith) (omega arith) (omega arith) (omega arith) (inr (le_refl n.entries)) place.opened own in
+      let same : both n on.counts ≡ end = both_of_three before left.counts right.counts on.counts in
       let conds = subst (λ b. AreConditions schema (scope_of (own_entries ∷ outer)) n b z.0) same (c (own_entries ∷ outer) n z.0 (record { opened = subst (λ b. IsOpen n.entries b.entries (scope_of (own_entries ∷ outer))) (sym same) inside; few = omega (arith, place.few) }) z.1) in
-      subst (IsSource schema (scope_of outer) before end) (same_Ok _ s z.2)
+      subst (IsSource schema (scope_of outer) before end) (same_Ok (record { entries = own_entries; tree = tree.Join (kind_of kind) x.0.tree y.0.tree z.0 }) s z.2)
       (join_is schema (scope_of outer) before m n end kind x.0 y.0 z.0 inside.distinct (omega arith) left_is right_is conds)
-    where
-      self : (n : ℕ) → n ≤ n
-      self n = omega arith
-
-      assoc : (a b c d : Counts) → both (both (both a b) c) d ≡ both a (both (both b c) d)
-      assoc a b c d = both_assoc (both a b) c d ∙ both_assoc a b (both c d) ∙ ap (both a) (sym (both_assoc b c d))

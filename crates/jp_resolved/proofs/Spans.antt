@@ -1,5 +1,5 @@
 -- Spans of the numbers of entries and sublinks: of what stands between two counts.
-use Rattle.std.proofs.Common.{◌≡◌, ap₂, sym, subst, map, ℕ, List, [], ◌∷◌, ◌++◌, arith}
+use Rattle.std.proofs.Common.{ℕ, suc, ◌+◌, ◌≤◌, ◌≡◌, ap₂, sym, subst, map, List, [], ◌∷◌, ◌++◌, arith}
 use Rattle.jp_resolution.specs.declared.words.Counts.{Counts}
 use Rattle.jp_resolution.specs.Counting.{none, both}
 
@@ -9,8 +9,17 @@ counted entries sublinks = record { entries = entries; sublinks = sublinks }
 pub both_assoc : (a b c : Counts) → both (both a b) c ≡ both a (both b c)
 both_assoc a b c = ap₂ counted (omega arith) (omega arith)
 
+pub both_of_three : (a b c d : Counts) → both (both (both a b) c) d ≡ both a (both (both b c) d)
+both_of_three a b c d = ap₂ counted (omega arith) (omega arith)
+
 pub both_none : (a : Counts) → both a none ≡ a
 both_none a = ap₂ counted (omega arith) (omega arith)
+
+pub right_zero : (n : ℕ) → n + 0 ≡ n
+right_zero n = omega arith
+
+pub next_first : (n : ℕ) → suc n ≤ n + 1
+next_first n = omega arith
 
 -- ---- lists whose members have spans one behind the other
 

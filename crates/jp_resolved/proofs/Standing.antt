@@ -1,5 +1,6 @@
 -- The occurrences of sublinks in what is made have rising numbers.
-use Rattle.std.proofs.Common.{◌≡◌, ◌∙◌, ap, ap₂, sym, subst, refl, ℕ, suc, ◌+◌, ◌≤◌, inl, inr, Bool, true, false, List, [], ◌∷◌, ◌++◌, map, length, Some, arith}
+use Rattle.std.proofs.Common.{◌≡◌, ◌∙◌, ap, ap₂, sym, subst, refl, ℕ, suc, ◌+◌, ◌≤◌, inl, inr, Bool, true, false, List, [], ◌∷◌, ◌++◌, map, length, Some}
+use Rattle.std.proofs.Math.Nat.{le_refl}
 use Rattle.std.specs.Prelude.{if◌then◌else◌}
 use Rattle.std.proofs.lemmas.Bool.{false≢true}
 use Rattle.std.proofs.lemmas.List.{append-nil}
@@ -24,10 +25,11 @@ use Rattle.jp_resolution.specs.declared.words.Counts.{Counts}
 use Rattle.jp_resolution.specs.Counting.{one_entry, both, next_relation, next_sublink}
 use Rattle.jp_resolution.specs.Resolving.{kind_of}
 use Rattle.jp_resolved.specs.Sorted.{expr_of_output, expr_of_order}
-use Rattle.jp_resolved.proofs.Spans.{Along}
+use Rattle.jp_resolved.proofs.Spans.{next_first, right_zero, Along}
 use Rattle.jp_resolved.proofs.Made.{is_operator, Steps, TreesAlong}
 use Rattle.jp_resolved.proofs.Operands.{operator_map}
 use Rattle.jp_resolved.proofs.Rising.{Rising, rising_append, rising_map}
+use Rattle.jp_resolved.proofs.Members.{each_from}
 
 abbrev pub occurrence_number : Occurrence → ℕ
 occurrence_number s = s.number
@@ -57,10 +59,7 @@ abbrev pub SelectStands : Scope → Counts → Counts → QueryLayer → Type 0
 SelectStands outer a b level = Rises a b (occurrences_in (roll-Query level))
 
 same_none : (a b : Counts) → a ≡ b → Rises a b []
-same_none a b same = subst (λ (c : Counts). suc a.sublinks ≤ suc c.sublinks) same (self (suc a.sublinks))
-  where
-    self : (n : ℕ) → n ≤ n
-    self n = omega arith
+same_none a b same = subst (λ (c : Counts). suc a.sublinks ≤ suc c.sublinks) same (le_refl (suc a.sublinks))
 
 pub below_rises : (i a b : ℕ) (xs : List Occurrence) → Rising occurrence_number a b xs → Rising occurrence_number a b (map (below i) xs)
 below_rises i a b xs h = rising_map occurrence_number occurrence_number (below i) (λ x. refl) a b xs h
@@ -80,13 +79,9 @@ all_rise scope a b (e ∷ es) along = join_rises (suc a.sublinks) (suc along.0.s
 pub parts_of : (scope : Scope) (a b : Counts) (es : List Expr) (all : List Occurrence) → ((e : Expr) → In e es → (x : Occurrence) → In x (of_expr e) → In x all) → Along (ExprStands scope) a b es → Each (λ e. (c : ℕ) × (d : ℕ) × Rising occurrence_number c d (of_expr e) × Each (λ s. In s all) (of_expr e)) es
 parts_of scope a b [] all within along = tt
 parts_of scope a b (e ∷ es) all within along = (
-  (suc a.sublinks, suc along.0.sublinks, along.1, each_member (of_expr e) (within e (inl refl))),
+  (suc a.sublinks, suc along.0.sublinks, along.1, each_from (λ s. In s all) (of_expr e) (within e (inl refl))),
   parts_of scope along.0 b es all (λ f h x p. within f (inr h) x p) along.2,
 )
-  where
-    each_member : (xs : List Occurrence) → ((x : Occurrence) → In x xs → In x all) → Each (λ s. In s all) xs
-    each_member [] h = tt
-    each_member (x ∷ xs) h = (h x (inl refl), each_member xs (λ y r. h y (inr r)))
 
 trees_rise : (outer : Scope) (a b : Counts) (own : Scope) (ts : List JoinTree) (i : ℕ) → TreesAlong (TreeStands outer) a b own ts → Rises a b (from_parts i (map of_tree ts))
 trees_rise outer a b own [] i along = same_none a b along.1
@@ -142,12 +137,6 @@ select_stands outer own a m n b level members plain is outputs trees conds =
     (join_rises (suc a.sublinks) (suc m.sublinks) (suc b.sublinks) (map listed_here (from_parts 0 lists)) (from_parts (length lists) rest)
     (rising_map occurrence_number occurrence_number listed_here listed_number (suc a.sublinks) (suc m.sublinks) (from_parts 0 lists) (parts_rise (own ++ outer) a m (map expr_of_output level.columns) 0 outputs))
     (rest_rises outer own (length lists) m n b level members is trees conds))
-
-next_first : (n : ℕ) → suc n ≤ n + 1
-next_first n = omega arith
-
-right_zero : (n : ℕ) → n + 0 ≡ n
-right_zero n = omega arith
 
 more_none : (n m : ℕ) (xs : List Occurrence) → Rising occurrence_number (suc (n + 0)) m xs → Rising occurrence_number (suc n) m xs
 more_none n m xs h = subst (λ k. Rising occurrence_number (suc k) m xs) (right_zero n) h

@@ -1,5 +1,5 @@
 -- Statements: what their select makes, and their ORDER BY items, each of which is made behind it or repeats an output.
-use Rattle.std.proofs.Common.{◌≡◌, ◌∙◌, ap, ap₂, sym, subst, refl, ℕ, zero, suc, ◌+◌, ◌≤◌, ◌⊎◌, inl, inr, Bool, true, false, List, [], ◌∷◌, ◌++◌, map, filter, cond, Option, Some, None, Ok, Err, arith}
+use Rattle.std.proofs.Common.{◌≡◌, ◌∙◌, ap, ap₂, sym, subst, refl, ℕ, zero, suc, ◌+◌, ◌≤◌, ◌⊎◌, inl, inr, Bool, true, false, List, [], ◌∷◌, ◌++◌, map, filter, Option, Some, None, Ok, Err, arith}
 use Rattle.std.specs.Prelude.{ℤ, pos, nat_le, IsSome, if◌then◌else◌}
 use Rattle.std.specs.List.{list_all, list_any, slice_get}
 use Rattle.std.proofs.lemmas.Bool.{and_parts, false≢true, leb-true}
@@ -33,7 +33,7 @@ use Rattle.jp_resolution.specs.Resolving.{AstMeant, ItemMeant, Targets, ast_mean
 use Rattle.jp_resolution.specs.Schemas.{schema_of}
 use Rattle.jp_resolution.specs.Types.{own_type, own_expr}
 use Rattle.jp_induction.proofs.EachPart.{Each, each_weaker}
-use Rattle.jp_facts.proofs.Members.{In}
+use Rattle.jp_facts.proofs.Members.{In, from_filter}
 use Rattle.jp_resolved.specs.Sorted.{expr_of_output, expr_of_order}
 use Rattle.jp_resolved.proofs.Answered.{same_Ok, no_Ok, then_parts, if_parts}
 use Rattle.jp_resolved.proofs.Spans.{Along, both_none}
@@ -43,23 +43,9 @@ use Rattle.jp_resolved.proofs.Found.{found_own}
 use Rattle.jp_resolved.proofs.Parts.{IsPlace, Claim, Good, all_good}
 use Rattle.jp_resolved.proofs.Selections.{IsSelection, IsTypedOutput, type_of_output}
 use Rattle.jp_resolved.proofs.Walked.{ast_good, select_is_good}
+use Rattle.jp_resolved.proofs.Members.{in_map}
 
 -- ---- outputs that an item names
-
-module _ {X Y : Type 0} (f : X → Y) where
-  pub in_map : (x : X) (xs : List X) → In x xs → In (f x) (map f xs)
-  in_map x [] h = absurd h
-  in_map x (y ∷ ys) (inl e) = inl (ap f e)
-  in_map x (y ∷ ys) (inr r) = inr (in_map x ys r)
-
-in_cond : {X : Type 0} (b : Bool) (x y : X) (ys zs : List X) → In x (cond b (y ∷ ys) ys) → (In x ys → In x zs) → In x (y ∷ zs)
-in_cond true x y ys zs (inl e) later = inl e
-in_cond true x y ys zs (inr r) later = inr (later r)
-in_cond false x y ys zs r later = inr (later r)
-
-in_filtered : {X : Type 0} (p : X → Bool) (x : X) (xs : List X) → In x (filter p xs) → In x xs
-in_filtered p x [] h = h
-in_filtered p x (y ∷ ys) h = in_cond (p y) x y (filter p ys) ys h (in_filtered p x ys)
 
 in_slice : {X : Type 0} (xs : List X) (n : ℕ) (x : X) → slice_get xs n ≡ Some x → In x xs
 in_slice [] n x e = absurd (none-some x e)
@@ -107,7 +93,7 @@ module _ (outputs : List Output) where
 
   item_is : (at : ℕ) (distinct : Bool) (e : Answer TypedExpr) (w : Written) (x : Expr) → item_expr at distinct outputs e w ≡ Ok x → ((is_bare w ≡ true) × Repeats x) ⊎ IsExpression distinct e x
   item_is at distinct e (as_name name) x h =
-      elim (named_is at distinct e (filter (has_output_name name) outputs) x (λ o r. in_filtered (has_output_name name) o outputs r) h) [ inl r ↦ inl (refl, r) | inr r ↦ inr r ]
+      elim (named_is at distinct e (filter (has_output_name name) outputs) x (λ o r. (from_filter (has_output_name name) o outputs r).1) h) [ inl r ↦ inl (refl, r) | inr r ↦ inr r ]
   item_is at distinct e (as_number n) x h = inl (refl, positioned at n x h)
   item_is at distinct e as_literal x h = absurd (no_Ok _ x h)
   item_is at distinct e as_signed x h = absurd (no_Ok _ x h)

@@ -1,5 +1,5 @@
 -- The query that a statement stands for is typed and bounded.
-use Rattle.std.proofs.Common.{◌≡◌, ◌∙◌, ap, sym, subst, ℕ, ◌<◌, ◌≤◌, true, List, [], ◌∷◌, ◌++◌, map, Ok, arith}
+use Rattle.std.proofs.Common.{◌≡◌, ◌∙◌, ap, sym, subst, ℕ, true, List, [], ◌∷◌, ◌++◌, map, Ok}
 use Rattle.jp_catalog.specs.declared.types.Catalog.{Catalog}
 use Rattle.jp_ast.specs.declared.tree.Stmt.{Stmt}
 use Rattle.jp_statements.specs.Whole.{is_whole}
@@ -20,12 +20,13 @@ use Rattle.jp_resolved.specs.Sorted.{expr_of_output, expr_of_order}
 use Rattle.jp_resolved.proofs.Spans.{Along}
 use Rattle.jp_resolved.proofs.Made.{exprs_have, trees_have}
 use Rattle.jp_resolved.proofs.Seen.{seen_all}
-use Rattle.jp_resolved.proofs.Rising.{rising_append, rising_between}
+use Rattle.jp_resolved.proofs.Rising.{rising_append}
 use Rattle.jp_resolved.proofs.Selections.{level_of}
 use Rattle.jp_resolved.proofs.Tops.{IsTop, top}
-use Rattle.jp_resolved.proofs.Wholes.{each_in, each_from, orders_have}
+use Rattle.jp_resolved.proofs.Members.{each_in, each_from}
+use Rattle.jp_resolved.proofs.Wholes.{orders_have}
 use Rattle.jp_resolved.proofs.Leaving.{leaf_number, IsInside, of_expr, of_tree, of_output, ExprApart, TreeApart, SelectApart, leaving, body_apart, exprs_apart, outputs_are, orders_are, query_is, in_together, IsKnown, IsRepeated, with_orders}
-use Rattle.jp_resolved.proofs.TypedTops.{IsLow, few_numbers, Numbers, base_sources, IsTable, Tables, table_sources, judged, gathers, rooted, expressions, takes_columns, takes_placeholders, takes_scopes, takes_bounds}
+use Rattle.jp_resolved.proofs.TypedTops.{low_between, IsLow, few_numbers, Numbers, base_sources, IsTable, Tables, table_sources, judged, gathers, rooted, expressions, takes_columns, takes_placeholders, takes_scopes, takes_bounds}
 
 -- what each expression has by itself
 abbrev IsAlone : Expr → Type 0
@@ -75,13 +76,6 @@ module _ (catalog : Catalog) (s : Selection) (items : List Order) (t : IsTop cat
       ap (λ (l : Leaves). l.apart) (query_is (level_of s items))
       ∙ ap (λ os. (beside body (together os)).apart) (orders_are items)
       ∙ with_orders t.end.entries all body (map expr_of_order items) rising body_is.apart (each_from (λ x. In x all) body.leaves (λ x h. in_append_left x body.leaves fs.leaves h)) repeated
-
-  pub low_between : (a b : ℕ) (xs : List ℕ) → b ≤ 12 → Numbers a b xs → Each IsLow xs
-  low_between a b xs h rising = each_low xs (rising_between (λ n. n) a b xs rising)
-    where
-      each_low : (ns : List ℕ) → Each (λ n. (a ≤ n) × (n < b)) ns → Each IsLow ns
-      each_low [] each = tt
-      each_low (n ∷ ns) each = (omega (arith, h, each.0.1), each_low ns each.1)
 
   top_typed : IsTyped schema [] (query_of s items)
   top_typed = record {

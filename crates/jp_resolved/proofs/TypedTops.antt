@@ -1,5 +1,6 @@
 -- A statement's query is typed and bounded.
-use Rattle.std.proofs.Common.{◌≡◌, ◌∙◌, ap, sym, subst, refl, ℕ, ◌+◌, ◌<◌, ◌≤◌, ◌^◌, Bool, true, false, List, [], ◌∷◌, ◌++◌, length, map, fold, Some, arith}
+use Rattle.std.proofs.Common.{suc, ◌≡◌, ◌∙◌, ap, sym, subst, refl, ℕ, ◌+◌, ◌<◌, ◌≤◌, ◌^◌, Bool, true, false, List, [], ◌∷◌, ◌++◌, length, map, fold, Some, arith}
+use Rattle.std.proofs.Math.Nat.{le_refl}
 use Rattle.std.specs.Prelude.{bit_or, count_ones, is_some, IsSome}
 use Rattle.std.specs.List.{list_all}
 use Rattle.std.proofs.Math.Pow.{pow-lt}
@@ -26,7 +27,7 @@ use Rattle.jp_resolved.proofs.Made.{exprs_have, trees_have}
 use Rattle.jp_resolved.proofs.Operands.{along_each}
 use Rattle.jp_resolved.proofs.Found.{same_self}
 use Rattle.jp_resolved.proofs.Seen.{seen_all}
-use Rattle.jp_resolved.proofs.Rising.{Rising, IsBetween, rising_append}
+use Rattle.jp_resolved.proofs.Rising.{rising_within, Rising, rising_append}
 use Rattle.jp_resolved.proofs.Selections.{level_of, select_typed, typed_order}
 use Rattle.jp_resolved.proofs.Tops.{IsTop}
 use Rattle.jp_resolved.proofs.Wholes.{orders_have}
@@ -65,14 +66,11 @@ few_numbers ns each =
     let below : count_ones (union (map only ns)) ≤ 12 = ones-le 12 (union (map only ns)) (union_low 0 ns (omega arith) each) in
     omega (arith, below)
 
-pub low_from : (b : ℕ) (ns : List ℕ) → b ≤ 12 → Each (IsBetween (λ n. n) 0 b) ns → Each IsLow ns
-low_from b [] h each = tt
-low_from b (n ∷ ns) h each = (omega (arith, h, each.0.1), low_from b ns h each.1)
+pub low_between : (a b : ℕ) (ns : List ℕ) → b ≤ 12 → Rising (λ n. n) a b ns → Each IsLow ns
+low_between a b [] low rising = tt
+low_between a b (n ∷ ns) low rising = let end : suc n ≤ b = rising_within (λ n. n) (suc n) b ns rising.1 in (omega (arith, low, end), low_between (suc n) b ns low rising.1)
 
 -- ---- what leaves give
-
-abbrev NumberLevel : Type 0
-NumberLevel = Expr-F (List ℕ) (List ℕ) (List ℕ) (List ℕ) (List ℕ)
 
 abbrev TreeLevel : Type 0
 TreeLevel = JoinTree-F (List ℕ) (List ℕ) (List ℕ) (List ℕ) (List ℕ)
@@ -99,14 +97,11 @@ inner_table : (t : TreeLevel) → gather.is_leaf t ≡ false → base_table t �
 inner_table (JoinTree-F.Base rel name table) h = absurd (false≢true (sym h))
 inner_table _ h = refl
 
-self : (n : ℕ) → n ≤ n
-self n = omega arith
-
 pub leaf_sources : (schema : Schema) → gather.Sources ℕ nothing_of_node leaf_number schema Numbers
 leaf_sources schema = record {
   nodes = λ x h. refl;
   inner = inner_leaf;
-  none = self;
+  none = le_refl;
   base = λ n name place columns there. one_number n;
   sub = λ n name query. one_number n;
   join = λ a m b xs ys p q. rising_append (λ n. n) a m b xs ys p q;
@@ -116,7 +111,7 @@ pub base_sources : (schema : Schema) → gather.Sources ℕ nothing_of_node base
 base_sources schema = record {
   nodes = λ x h. refl;
   inner = inner_base;
-  none = self;
+  none = le_refl;
   base = λ n name place columns there. one_number n;
   sub = λ n name query. no_numbers n;
   join = λ a m b xs ys p q. rising_append (λ n. n) a m b xs ys p q;

@@ -45,14 +45,6 @@ use Rattle.jp_resolved.proofs.Sources.{GoodItem, ConditionsAt, table_good, sub_g
 use Rattle.jp_resolved.proofs.Targets.{FoundAt, SelectedAt, name_is, qualified_is, all_columns_are, columns_of_are, one_is, targets_good}
 use Rattle.jp_resolved.proofs.Selects.{SelectionAt, select_good}
 
-one_listed : {A B : Type 0} (f : A → Bool) (g : A → B) (xs : List A) → has_one (map f xs) ≡ true → is_listed (map g xs) ≡ true
-one_listed f g [] h = absurd (false≢true h)
-one_listed f g (x ∷ xs) h = refl
-
-two_listed : {A B : Type 0} (f : A → Bool) (g : A → B) (xs : List A) → has_two (map f xs) ≡ true → is_listed (map g xs) ≡ true
-two_listed f g [] h = absurd (false≢true h)
-two_listed f g (x ∷ xs) h = refl
-
 fits_on : (kind : JoinWord) (o : Option Bool) → fits_join itself kind o ≡ true → maybe_passes itself o ≡ true
 fits_on join_word.Cross None h = refl
 fits_on join_word.Cross (Some b) h = absurd (false≢true h)
