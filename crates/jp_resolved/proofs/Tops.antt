@@ -52,6 +52,12 @@ in_slice [] n x e = absurd (none-some x e)
 in_slice (y ∷ ys) zero x e = inl (same_Some y x e)
 in_slice (y ∷ ys) (suc n) x e = inr (in_slice ys n x e)
 
+-- a name or a number alone
+abbrev pub is_bare : Written → Bool
+is_bare (as_name name) = true
+is_bare (as_number n) = true
+is_bare _ = false
+
 module _ (outputs : List Output) where
   abbrev pub Repeats : Expr → Type 0
   Repeats x = In x (map expr_of_output outputs)
@@ -80,11 +86,6 @@ module _ (outputs : List Output) where
   expression_is : (at : ℕ) (distinct : Bool) (e : Answer TypedExpr) (x : Expr) → expression at distinct outputs e ≡ Ok x → IsExpression distinct e x
   expression_is at distinct e x h = let found = then_parts e (selected at distinct outputs) x h in selected_is at distinct e found.0 x found.1 found.2
 
-  abbrev pub is_bare : Written → Bool
-  is_bare (as_name name) = true
-  is_bare (as_number n) = true
-  is_bare _ = false
-
   named_is : (at : ℕ) (distinct : Bool) (e : Answer TypedExpr) (named : List Output) (x : Expr) → ((o : Output) → In o named → In o outputs) → named_output at distinct outputs e named ≡ Ok x → Repeats x ⊎ IsExpression distinct e x
   named_is at distinct e [] x within h = inr (expression_is at distinct e x h)
   named_is at distinct e (o ∷ more) x within h =
@@ -101,14 +102,14 @@ module _ (outputs : List Output) where
 
 -- ---- a name or a number alone has no numbers
 
-not_bare : (w : Written) → is_bare [] (signed w) ≡ true → ⊥
+not_bare : (w : Written) → is_bare (signed w) ≡ true → ⊥
 not_bare (as_name name) h = false≢true h
 not_bare (as_number n) h = false≢true h
 not_bare as_literal h = false≢true h
 not_bare as_signed h = false≢true h
 not_bare as_other h = false≢true h
 
-bare_level : (x : Ast-F AstMeant ItemMeant Targets (Part Selection)) → is_bare [] (ast_meant x).written ≡ true → (ast_part x).counts ≡ none
+bare_level : (x : Ast-F AstMeant ItemMeant Targets (Part Selection)) → is_bare (ast_meant x).written ≡ true → (ast_part x).counts ≡ none
 bare_level (Ast-F.Name name at) h = refl
 bare_level (Ast-F.Number n at) h = refl
 bare_level (Ast-F.Sign minus operand at) h = absurd (not_bare operand.written h)
@@ -121,10 +122,10 @@ module _ (catalog : Catalog) where
   abbrev means : Ast-F Ast FromItem Target Select → Ast-F AstMeant ItemMeant Targets (Part Selection)
   means = map-Ast Ast FromItem Target Select AstMeant ItemMeant Targets (Part Selection) (meant_by catalog) (item_by catalog) (target_by catalog) (select_by catalog)
 
-  bare_counts : (a : Ast) → is_bare [] (meant_by catalog a).written ≡ true → (meant_by catalog a).part.counts ≡ none
+  bare_counts : (a : Ast) → is_bare (meant_by catalog a).written ≡ true → (meant_by catalog a).part.counts ≡ none
   bare_counts a h =
       let same : meant_by catalog a ≡ ast_meant (means (out-Ast a)) = ap (meant_by catalog) (sym (roll-out-Ast a)) ∙ fold-roll-Ast AstMeant ItemMeant Targets (Part Selection) ast_meant (item_meant catalog) target_meant select_meant (out-Ast a) in
-      ap (λ (m : AstMeant). m.part.counts) same ∙ bare_level (means (out-Ast a)) (sym (ap (λ (m : AstMeant). is_bare [] m.written) same) ∙ h)
+      ap (λ (m : AstMeant). m.part.counts) same ∙ bare_level (means (out-Ast a)) (sym (ap (λ (m : AstMeant). is_bare m.written) same) ∙ h)
 
   -- ---- ORDER BY items
 
