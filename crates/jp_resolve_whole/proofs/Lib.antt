@@ -4,3 +4,4 @@ pub mod OrderLaws
 pub mod Rules
 pub mod TopLaws
 pub mod WalkLaws
+pub mod Resolved

@@ -1,8 +1,13 @@
 #![tactic(auto, using(crate::proofs::TopLaws::tops))]
 
-ghost use Rattle.std.specs.Prelude.{◌≡◌};
+ghost use Rattle.std.specs.Prelude.{◌≡◌, [], true, IfOk};
+ghost use Rattle.jp_statements.specs.Whole.{is_whole};
+ghost use Rattle.jp_query.specs.Conditions.{IsBounded, IsTyped};
+ghost use Rattle.jp_query.specs.Freshness.{IsFresh};
 ghost use Rattle.jp_resolution.specs.Answers.{Gives};
 ghost use Rattle.jp_resolution.specs.Resolving.{Resolves, counted, ordered};
+ghost use Rattle.jp_resolution.specs.Schemas.{schema_of};
+ghost use Rattle.jp_resolved.specs.Sorted.{SortsBySelected};
 
 use crate::counting::Resolver;
 use jp_ast::{OrderAst, Stmt};
@@ -16,10 +21,16 @@ use std::alloc::Global;
 /// So many entries may stand in the FROM lists of a statement, at every depth.
 const ENTRY_LIMIT: u32 = 12;
 
-/// The query that a statement stands for over a catalogue, or its first refusal.
+/// The query that a statement stands for over a catalogue, or its first refusal. A statement that tokens derive is whole;
+/// then the query is typed and bounded over the schema of the catalogue, and fresh, and under DISTINCT it sorts by what it
+/// selects.
 #[tactic(auto, using(crate::proofs::TopLaws::tops), unfolding(jp_resolution::specs::Resolving::resolved))]
 pub fn resolve(alloc: Global, catalog: &Catalog, stmt: &Stmt) -> Result<Query, ResolveError>
-    ensures { Resolves catalog.now stmt.now result }
+    ensures query { Resolves catalog.now stmt.now result }
+    ensures typed { is_whole stmt.now ≡ true → IfOk result (IsTyped (schema_of catalog.now) []) }
+    ensures bounded { is_whole stmt.now ≡ true → IfOk result (IsBounded (schema_of catalog.now) []) }
+    ensures fresh { is_whole stmt.now ≡ true → IfOk result IsFresh }
+    ensures selected { is_whole stmt.now ≡ true → IfOk result SortsBySelected }
 {
     let resolver = Resolver { alloc, catalog };
     let select = resolver.select_counts(&stmt.select)?;

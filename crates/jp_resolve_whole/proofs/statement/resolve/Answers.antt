@@ -1,10 +1,11 @@
 use Rattle.std.proofs.Common.{◌∙◌, sym, subst, [], Ok, arith}
 use Rattle.jp_resolution.specs.Answers.{Gives}
 use Rattle.jp_resolution.specs.Counting.{none}
-use Rattle.jp_resolution.specs.Resolving.{ordered}
+use Rattle.jp_resolution.specs.Resolving.{ordered, resolved}
 use Rattle.jp_resolve_whole.specs.Walk.{select_in, counts_of_select}
 use Rattle.jp_resolve_whole.specs.Orders.{counts_of_orders}
 use Rattle.jp_resolve_whole.proofs.CountLaws.{agreed}
+use Rattle.jp_resolve_whole.proofs.Resolved.{answer_typed, answer_bounded, answer_fresh, answer_sorts}
 use Rattle.jp_resolve_whole.proofs.TopLaws.{few_resolved, counted_is}
 use Rattle.jp_resolve_whole.proofs.WalkLaws.{then_given}
 use Rattle.jp_resolve_whole.proofs.statement.resolve.Goals as goal
@@ -24,4 +25,12 @@ returns c =
     let in_order : Gives (ordered catalog stmt.order (counts_of_select catalog stmt.select) selection) (Ok c.in_ok-query.query) =
     subst (λ z. Gives (ordered catalog stmt.order z selection) (Ok c.in_ok-query.query)) (agreed _ _ c.in_ok-select.ensures)
     (subst (λ z. Gives (ordered catalog z select selection) (Ok c.in_ok-query.query)) c.as_slice-3.ensures c.in_ok-query.ensures) in
-    subst (λ z. Gives z (Ok c.in_ok-query.query)) (sym whole) (then_given (select_in catalog stmt.select [] none) _ selection _ chosen in_order)
+    let answer = Ok c.in_ok-query.query in
+    let given : Gives (resolved catalog stmt) answer = subst (λ z. Gives z answer) (sym whole) (then_given (select_in catalog stmt.select [] none) _ selection _ chosen in_order) in
+    record {
+      query = given;
+      typed = answer_typed catalog stmt answer given;
+      bounded = answer_bounded catalog stmt answer given;
+      fresh = answer_fresh catalog stmt answer given;
+      selected = answer_sorts catalog stmt answer given;
+    }
