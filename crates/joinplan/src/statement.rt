@@ -14,7 +14,7 @@ use jp_catalog::Catalog;
 use jp_lex::{each_source_is_cut_as_answered, tokens};
 use jp_parse::parse;
 use jp_query::Query;
-use jp_resolve_whole::resolve;
+use jp_resolve::resolve;
 use std::alloc::Global;
 
 /// The statement of a source, or the first refusal of its tokens, its nesting or its grammar.

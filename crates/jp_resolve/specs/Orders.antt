@@ -11,7 +11,7 @@ use Rattle.jp_resolution.specs.Answers.{Answer, ◌>>=◌}
 use Rattle.jp_resolution.specs.Counting.{Levels, none, both}
 use Rattle.jp_resolution.specs.Ordering.{Written, as_number, as_literal, item_expr, expression}
 use Rattle.jp_resolution.specs.Resolving.{meant_by, order_of}
-use Rattle.jp_resolve_whole.specs.Walk.{expr_in, counts_of_expr, place_of_expr}
+use Rattle.jp_resolve.specs.Walk.{expr_in, counts_of_expr, place_of_expr}
 
 unfoldable pub written_of_expr : Catalog → Ast → Written
 written_of_expr catalog ast = (meant_by catalog ast).written

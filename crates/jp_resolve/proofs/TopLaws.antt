@@ -13,10 +13,10 @@ use Rattle.jp_resolution.specs.Answers.{Answer, ◌>>=◌, Gives}
 use Rattle.jp_resolution.specs.Counting.{none, both}
 use Rattle.jp_resolution.specs.Resolving.{ordered, counted, counts_in, query_of, entry_limit, resolved}
 use Rattle.jp_resolution.specs.declared.error.ResolveError.TheVariants.{TooManyTables}
-use Rattle.jp_resolve_whole.specs.Walk.{select_in, counts_of_select}
-use Rattle.jp_resolve_whole.specs.Orders.{orders_in, counts_of_orders}
-use Rattle.jp_resolve_whole.proofs.CountLaws.{agreed}
-use Rattle.jp_resolve_whole.proofs.OrderLaws.{orders_are, orders_counted}
+use Rattle.jp_resolve.specs.Walk.{select_in, counts_of_select}
+use Rattle.jp_resolve.specs.Orders.{orders_in, counts_of_orders}
+use Rattle.jp_resolve.proofs.CountLaws.{agreed}
+use Rattle.jp_resolve.proofs.OrderLaws.{orders_are, orders_counted}
 
 abbrev ordered_query : Selection → List Order → Answer Query
 ordered_query s items = Ok (query_of s items)

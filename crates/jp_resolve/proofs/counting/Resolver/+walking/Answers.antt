@@ -6,10 +6,10 @@ use Rattle.jp_resolution.specs.Counting.{both}
 use Rattle.jp_resolution.specs.Resolving.{kind_of}
 use Rattle.jp_resolve_parts.specs.Outs.{outputs_behind}
 use Rattle.jp_resolve_parts.specs.Views.{beside_new, source_behind}
-use Rattle.jp_resolve_whole.specs.Walk as spec
-use Rattle.jp_resolve_whole.proofs.CountLaws.{agreed}
-use Rattle.jp_resolve_whole.proofs.WalkLaws.{arms_more, case_walked, then_refused, then_given, join_walked, select_done, add_one}
-use Rattle.jp_resolve_whole.proofs.counting.Resolver.+walking.Goals as goal
+use Rattle.jp_resolve.specs.Walk as spec
+use Rattle.jp_resolve.proofs.CountLaws.{agreed}
+use Rattle.jp_resolve.proofs.WalkLaws.{arms_more, case_walked, then_refused, then_given, join_walked, select_done, add_one}
+use Rattle.jp_resolve.proofs.counting.Resolver.+walking.Goals as goal
 
 pub arms-arms-preserved : goal.arms-arms-preserved
 arms-arms-preserved t c =

@@ -18,12 +18,12 @@ use Rattle.jp_resolution.specs.Counting.{Part, Levels, both, all_over}
 use Rattle.jp_resolution.specs.Ordering.{Written, as_name, as_number, as_literal, as_signed, as_other, signed}
 use Rattle.jp_resolution.specs.Resolving.{AstMeant, ItemMeant, Targets, ast_meant, item_meant, target_meant, select_meant, meant_by, item_by, target_by, select_by, written_as, order_by, counts_in_orders}
 use Rattle.jp_statements.proofs.FoldLaws as laws
-use Rattle.jp_resolve_whole.specs.Walk.{expr_in, counts_of_expr, place_of_expr}
-use Rattle.jp_resolve_whole.specs.Orders.{written_of_expr, is_bare_literal, order_in, orders_in, counts_of_orders}
-use Rattle.jp_resolve_whole.proofs.CountLaws.{both_assoc, both_none, none_both}
-use Rattle.jp_resolve_whole.proofs.NameLaws.{place_is}
-use Rattle.jp_resolve_whole.proofs.Rules.{place-Name, place-Number, place-Text, place-Bool, place-Null, place-Sign}
-use Rattle.jp_resolve_whole.proofs.WalkLaws.{found_more, nothing_found}
+use Rattle.jp_resolve.specs.Walk.{expr_in, counts_of_expr, place_of_expr}
+use Rattle.jp_resolve.specs.Orders.{written_of_expr, is_bare_literal, order_in, orders_in, counts_of_orders}
+use Rattle.jp_resolve.proofs.CountLaws.{both_assoc, both_none, none_both}
+use Rattle.jp_resolve.proofs.NameLaws.{place_is}
+use Rattle.jp_resolve.proofs.Rules.{place-Name, place-Number, place-Text, place-Bool, place-Null, place-Sign}
+use Rattle.jp_resolve.proofs.WalkLaws.{found_more, nothing_found}
 
 pub written-Name : (c : Catalog) (name : List ℕ) (at : ℕ) → written_of_expr c (ast.Name name at) ≡ as_name name
 unfolding written_of_expr

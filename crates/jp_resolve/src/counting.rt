@@ -3,7 +3,7 @@
 ghost use Rattle.std.specs.Prelude.{◌≡◌, Ok};
 ghost use Rattle.jp_resolution.specs.Answers.{Gives};
 ghost use Rattle.jp_resolution.specs.Counting.{both};
-ghost use Rattle.jp_resolve_whole.specs.Walk as spec;
+ghost use Rattle.jp_resolve.specs.Walk as spec;
 
 use jp_ast::{Ast, FromItem, Select, Target};
 use jp_catalog::Catalog;

@@ -2,13 +2,13 @@ use Rattle.std.proofs.Common.{◌∙◌, sym, subst, [], Ok, arith}
 use Rattle.jp_resolution.specs.Answers.{Gives}
 use Rattle.jp_resolution.specs.Counting.{none}
 use Rattle.jp_resolution.specs.Resolving.{ordered, resolved}
-use Rattle.jp_resolve_whole.specs.Walk.{select_in, counts_of_select}
-use Rattle.jp_resolve_whole.specs.Orders.{counts_of_orders}
-use Rattle.jp_resolve_whole.proofs.CountLaws.{agreed}
-use Rattle.jp_resolve_whole.proofs.Resolved.{answer_typed, answer_bounded, answer_fresh, answer_sorts}
-use Rattle.jp_resolve_whole.proofs.TopLaws.{few_resolved, counted_is}
-use Rattle.jp_resolve_whole.proofs.WalkLaws.{then_given}
-use Rattle.jp_resolve_whole.proofs.statement.resolve.Goals as goal
+use Rattle.jp_resolve.specs.Walk.{select_in, counts_of_select}
+use Rattle.jp_resolve.specs.Orders.{counts_of_orders}
+use Rattle.jp_resolve.proofs.CountLaws.{agreed}
+use Rattle.jp_resolve.proofs.Resolved.{answer_typed, answer_bounded, answer_fresh, answer_sorts}
+use Rattle.jp_resolve.proofs.TopLaws.{few_resolved, counted_is}
+use Rattle.jp_resolve.proofs.WalkLaws.{then_given}
+use Rattle.jp_resolve.proofs.statement.resolve.Goals as goal
 
 pub returns : goal.returns
 returns c =

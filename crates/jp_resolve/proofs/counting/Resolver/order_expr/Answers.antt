@@ -1,11 +1,11 @@
 use Rattle.std.proofs.Common.{rules, ◌≡◌, ◌∙◌, ap, sym, subst}
 use Rattle.jp_resolution.specs.Answers.{Gives}
 use Rattle.jp_resolution.specs.Ordering.{item_expr, position, output_at}
-use Rattle.jp_resolve_whole.specs.Orders as spec
-use Rattle.jp_resolve_whole.specs.Walk.{expr_in}
-use Rattle.jp_resolve_whole.proofs.OrderLaws.{written-Number}
-use Rattle.jp_resolve_whole.proofs.Rules.{place-Number}
-use Rattle.jp_resolve_whole.proofs.counting.Resolver.order_expr.Goals as goal
+use Rattle.jp_resolve.specs.Orders as spec
+use Rattle.jp_resolve.specs.Walk.{expr_in}
+use Rattle.jp_resolve.proofs.OrderLaws.{written-Number}
+use Rattle.jp_resolve.proofs.Rules.{place-Number}
+use Rattle.jp_resolve.proofs.counting.Resolver.order_expr.Goals as goal
 
 pub returns-in_err-expr-in-Number : goal.returns-in_err-expr-in-Number
 returns-in_err-expr-in-Number c =

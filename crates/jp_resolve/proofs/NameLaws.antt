@@ -11,7 +11,7 @@ use Rattle.jp_catalog.specs.declared.types.Catalog.{Catalog}
 use Rattle.jp_resolution.specs.declared.words.Selection.{Selection}
 use Rattle.jp_resolution.specs.Counting.{Part}
 use Rattle.jp_resolution.specs.Resolving.{AstMeant, ItemMeant, Targets, ast_meant, item_meant, target_meant, select_meant, meant_by, item_by, target_by, select_by, place_of_ast, label_of}
-use Rattle.jp_resolve_whole.specs.Walk.{place_of_expr, label_of_expr}
+use Rattle.jp_resolve.specs.Walk.{place_of_expr, label_of_expr}
 
 abbrev Level : Type 0
 Level = Ast-F Ast FromItem Target Select

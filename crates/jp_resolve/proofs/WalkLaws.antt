@@ -25,10 +25,10 @@ use Rattle.jp_resolve_parts.specs.declared.outputs.Outputs.{Outputs}
 use Rattle.jp_resolve_parts.specs.Outs.{with_outputs, outputs_behind}
 use Rattle.jp_resolve_parts.specs.Views.{source_behind, beside_new}
 use Rattle.jp_resolve_parts.proofs.OutputLaws.{outputs_joined}
-use Rattle.jp_resolve_whole.specs.Walk.{expr_in, counts_of_expr, item_in, counts_of_item, pair_in, counts_of_pair, arms_in, counts_of_arms, maybe_in, counts_of_maybe, cond_in, items_in, counts_of_items, all_outputs_in, counts_of_targets, select_in, behind, sources_behind}
-use Rattle.jp_resolve_whole.proofs.Rules.{walks, in-Case, in-Join, in-Select}
-use Rattle.jp_resolve_whole.proofs.CountLaws.{agreed, both_assoc}
-use Rattle.jp_resolve_whole.proofs.NameLaws.{place_is, label_is}
+use Rattle.jp_resolve.specs.Walk.{expr_in, counts_of_expr, item_in, counts_of_item, pair_in, counts_of_pair, arms_in, counts_of_arms, maybe_in, counts_of_maybe, cond_in, items_in, counts_of_items, all_outputs_in, counts_of_targets, select_in, behind, sources_behind}
+use Rattle.jp_resolve.proofs.Rules.{walks, in-Case, in-Join, in-Select}
+use Rattle.jp_resolve.proofs.CountLaws.{agreed, both_assoc}
+use Rattle.jp_resolve.proofs.NameLaws.{place_is, label_is}
 
 -- ---- one answer after the other
 

@@ -1,8 +1,8 @@
 use Rattle.std.proofs.Common.{◌≡◌, ◌≤◌, drop}
 use Rattle.jp_ast.specs.declared.tree.FromItem.{size-FromItem}
 use Rattle.jp_resolution.specs.Counting.{both}
-use Rattle.jp_resolve_whole.specs.Walk as spec
-use Rattle.jp_resolve_whole.proofs.counting.Resolver.+counting.Given as goal
+use Rattle.jp_resolve.specs.Walk as spec
+use Rattle.jp_resolve.proofs.counting.Resolver.+counting.Given as goal
 
 abbrev pub invariant-arm_counts-arms : goal.invariant-arm_counts-arms
 invariant-arm_counts-arms l = both l.counts (spec.counts_of_arms l.self.catalog.now (drop l.arm-index l.arms)) ≡ spec.counts_of_arms l.self.catalog.now l.arms

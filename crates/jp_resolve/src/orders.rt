@@ -2,7 +2,7 @@
 
 ghost use Rattle.std.specs.Prelude.{◌≡◌, Ok};
 ghost use Rattle.jp_resolution.specs.Answers.{Gives};
-ghost use Rattle.jp_resolve_whole.specs.Orders as spec;
+ghost use Rattle.jp_resolve.specs.Orders as spec;
 
 use crate::counting::Resolver;
 use crate::names::place_of;

@@ -12,8 +12,8 @@ use Rattle.jp_catalog.specs.declared.types.Catalog.{Catalog}
 use Rattle.jp_resolution.specs.Answers.{Gives}
 use Rattle.jp_resolution.specs.declared.words.Counts.{Counts}
 use Rattle.jp_resolution.specs.Counting.{none, one_entry, both}
-use Rattle.jp_resolve_whole.specs.Walk.{counts_of_expr, counts_of_arms, counts_of_item, counts_of_maybe}
-use Rattle.jp_resolve_whole.proofs.Rules.{all_counts, counts-Case, counts-Table, counts-Join}
+use Rattle.jp_resolve.specs.Walk.{counts_of_expr, counts_of_arms, counts_of_item, counts_of_maybe}
+use Rattle.jp_resolve.proofs.Rules.{all_counts, counts-Case, counts-Table, counts-Join}
 
 plus_assoc : (a b c : ℕ) → (a + b) + c ≡ a + (b + c)
 plus_assoc a b c = omega arith

@@ -1,7 +1,7 @@
 use Rattle.std.proofs.Common.{◌≡◌, [], drop}
 use Rattle.jp_resolve_parts.specs.Outs.{outputs_behind}
-use Rattle.jp_resolve_whole.specs.Walk as spec
-use Rattle.jp_resolve_whole.proofs.counting.Resolver.+walking.Given as goal
+use Rattle.jp_resolve.specs.Walk as spec
+use Rattle.jp_resolve.proofs.counting.Resolver.+walking.Given as goal
 
 abbrev pub invariant-exprs-asts : goal.invariant-exprs-asts
 invariant-exprs-asts l = spec.behind l.found.items (spec.exprs_in l.self.catalog.now (drop l.ast-index l.asts) l.levels l.after) ≡ spec.exprs_in l.self.catalog.now l.asts l.levels l.fn.before

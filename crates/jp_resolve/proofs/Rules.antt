@@ -24,7 +24,7 @@ use Rattle.jp_resolution.specs.Types.{number_literal, text_literal, truth_litera
 use Rattle.jp_resolution.specs.Resolving.{AstMeant, ItemMeant, Targets, ast_meant, item_meant, target_meant, select_meant, meant_by, item_by, target_by, select_by, part_of, term_of, arm_of, condition_of, case_of, name_over, qualified_over, exists_node, in_select_node, table_from, sub_source, new_source, kind_of, all_columns, all_columns_of, one_output, output_name, select_over, items_from, selection}
 use Rattle.jp_resolution.specs.Resolving as spec
 use Rattle.jp_statements.proofs.FoldLaws as laws
-use Rattle.jp_resolve_whole.specs.Walk.{expr_in, counts_of_expr, place_of_expr, label_of_expr, select_in, counts_of_select, item_in, counts_of_item, target_in, counts_of_target, exprs_in, counts_of_exprs, term_in, terms_in, counts_of_terms, pair_in, counts_of_pair, triple_in, arms_in, counts_of_arms, maybe_in, counts_of_maybe, case_in, among_in, sublink_in, exists_in, cond_in, items_in, counts_of_items, join_in, targets_in, counts_of_targets, select_steps}
+use Rattle.jp_resolve.specs.Walk.{expr_in, counts_of_expr, place_of_expr, label_of_expr, select_in, counts_of_select, item_in, counts_of_item, target_in, counts_of_target, exprs_in, counts_of_exprs, term_in, terms_in, counts_of_terms, pair_in, counts_of_pair, triple_in, arms_in, counts_of_arms, maybe_in, counts_of_maybe, case_in, among_in, sublink_in, exists_in, cond_in, items_in, counts_of_items, join_in, targets_in, counts_of_targets, select_steps}
 
 -- ---- lists and parts that may be missing
 

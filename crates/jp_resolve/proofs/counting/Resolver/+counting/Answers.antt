@@ -1,8 +1,8 @@
 use Rattle.std.proofs.Common.{◌≡◌, ◌∙◌, ap, sym, inr, Ok, arith}
 use Rattle.jp_resolution.specs.Counting.{both}
-use Rattle.jp_resolve_whole.specs.Walk as spec
-use Rattle.jp_resolve_whole.proofs.CountLaws.{agreed, case_counted, join_counted, table_counted, left_smaller}
-use Rattle.jp_resolve_whole.proofs.counting.Resolver.+counting.Goals as goal
+use Rattle.jp_resolve.specs.Walk as spec
+use Rattle.jp_resolve.proofs.CountLaws.{agreed, case_counted, join_counted, table_counted, left_smaller}
+use Rattle.jp_resolve.proofs.counting.Resolver.+counting.Goals as goal
 
 pub expr_counts-returns-in_ok-counts-in-Case : goal.expr_counts-returns-in_ok-counts-in-Case
 expr_counts-returns-in_ok-counts-in-Case t c =

@@ -4,7 +4,7 @@ ghost use Rattle.std.specs.Prelude.{◌≡◌, [], Ok};
 ghost use Rattle.jp_resolution.specs.Answers.{Gives};
 ghost use Rattle.jp_resolve_parts.specs.Outs.{outputs_behind, after_new};
 ghost use Rattle.jp_resolve_parts.specs.Views.{answer_map, beside_new, source_behind};
-ghost use Rattle.jp_resolve_whole.specs.Walk as spec;
+ghost use Rattle.jp_resolve.specs.Walk as spec;
 
 use crate::counting::Resolver;
 use crate::names::{output_name, place_of};
