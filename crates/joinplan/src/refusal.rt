@@ -139,7 +139,11 @@ fn write_tables_line<E: Sink>(err: &mut E, count: u32) -> Result<(), SinkError>
     ensures line { TookLine (E.taken err.old) (E.taken err.new) (E.faults err.old) (E.faults err.new) (tables_line count) }
 {
     let mut first = Buffer::new();
-    let pieces = ["limit: ", first.format(count), " table references, at most 12\n"];
+    let pieces = [
+        "limit: ",
+        first.format(count),
+        " table references, at most 12\n",
+    ];
     write_pieces(err, &pieces)
 }
 

@@ -659,7 +659,10 @@ fn statement_of_a_byte_too_many(rt: HostRuntime) -> Result<(), Fail> {
     let bytes = padded(rt.alloc(), "SELECT id FROM a WHERE x > 10", 65537)?;
     let answer = answer_with(rt.alloc(), "q.sql", bytes)?;
     assert_eq!(rt; answer.status, 5);
-    assert_eq!(rt; answer.err.bytes(), b"limit: statement over 65536 bytes\n".as_slice());
+    assert_eq!(rt;
+        answer.err.bytes(),
+        b"limit: statement over 65536 bytes\n".as_slice()
+    );
     Ok(())
 }
 
@@ -668,6 +671,9 @@ fn file_of_a_byte_too_many(rt: HostRuntime) -> Result<(), Fail> {
     let bytes = padded(rt.alloc(), "id,x\n", 67108865)?;
     let answer = answer_with(rt.alloc(), "a.csv", bytes)?;
     assert_eq!(rt; answer.status, 5);
-    assert_eq!(rt; answer.err.bytes(), b"limit: file a.csv over 67108864 bytes\n".as_slice());
+    assert_eq!(rt;
+        answer.err.bytes(),
+        b"limit: file a.csv over 67108864 bytes\n".as_slice()
+    );
     Ok(())
 }
