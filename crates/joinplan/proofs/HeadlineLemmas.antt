@@ -1,45 +1,39 @@
 -- The answer where the contents are told, taken apart.
 use Rattle.std.proofs.Common.{inl, inr, subst, ◌≡◌, ◌⊎◌, ℕ, zero, suc, ◌<◌, ◌≤◌, List, [], ◌∷◌, ◌++◌, length, map, cond, Option, Some, None, Result, Ok, Err, Vec, Global, refl, sym, ◌∙◌, ap, arith, append_assoc}
-use Rattle.std.specs.Prelude.{All, nat_le, slice_get, slice_set}
+use Rattle.std.specs.Prelude.{All, MatchResult, nat_le, slice_get, slice_set}
+use Rattle.std.proofs.lemmas.Option.{slice_get_within}
 use Rattle.std.proofs.lemmas.Bool.{cases_Bool, leb-true}
 use Rattle.std.proofs.lemmas.List.{append-nil, length-map}
 use Rattle.std.proofs.lemmas.List.Elements.{All-append, All-nil, All-weaker}
 use Rattle.jp_catalog.specs.Reading.{Read, catalogue_of}
 use Rattle.jp_catalog.specs.declared.types.Catalog.{Catalog}
 use Rattle.jp_io.specs.Sinks.{TookMore}
-use Rattle.jp_query.specs.Tables.{TableRows, IsLoaded}
-use Rattle.jp_first.specs.First.{statement_of}
+use Rattle.jp_query.specs.Tables.{TableRows, IsLoaded, rows_of_tables}
+use Rattle.jp_query.specs.InOrder.{IsInOrder}
+use Rattle.jp_query.specs.Meaning.{no_outer_rows, meaning}
+use Rattle.jp_query.specs.Mentions.{tables_mentioned}
+use Rattle.jp_laws.proofs.OrderedRows.{rows_in_order}
+use Rattle.jp_lex.specs.Answer as cutting
+use Rattle.jp_lex.specs.Cutting.{Bytes, Refused, Tokens}
 use Rattle.jp_ast.specs.declared.tree.Stmt.{Stmt}
 use Rattle.jp_query.specs.declared.Query.{Query}
 use Rattle.jp_query.specs.Parts.{tables_in}
 use Rattle.jp_table.specs.Loading.{Judged, table_of}
-use Rattle.jp_resolve.specs.Resolving.{query_of}
-use Rattle.jp_resolve.specs.Schemas.{table_columns}
+use Rattle.jp_resolution.specs.Resolving.{resolved}
 use Rattle.joinplan.specs.declared.refusal.Refusal.{Refusal}
 use Rattle.joinplan.specs.declared.refusal.Refusal.TheVariants as refusal
-use Rattle.joinplan.specs.Answers.{NamedTable, Rows, answer_in, answer_of, catalogue_in, catalogue_or_refuse, check_in, count_line, counts_in, file_limit, none_loaded, or_refuse, output_in, query_in, read_into, rows_or_refuse, run_in, selected_in, source_in, statement_in, statement_limit, table_in, tables_read, text_in, unless_loaded, with_count, with_table}
-use Rattle.joinplan.specs.Headline.{AreCounted, HasCatalogue, HasPlace, HasRows, HasTables, IsAnswerTo, IsCount, IsHeld, IsMeaning, PrintsAnswer}
+use Rattle.joinplan.specs.Refusals.{resolve_refusal}
+use Rattle.joinplan.specs.Answers.{NamedTable, Rows, answer_in, answer_of, catalogue_in, catalogue_or_refuse, check_in, count_line, counts_in, file_limit, none_loaded, output_in, query_in, query_of, read_into, rows_or_refuse, run_in, selected_in, source_in, statement_in, statement_limit, statement_of, table_in, tables_read, text_in, with_count, with_table}
+use Rattle.joinplan.specs.Headline.{AreCounted, HasCatalogue, HasPlace, HasRows, HasTables, IsAnswerTo, IsCount, IsHeld, IsInItsOrder, IsMeaning, IsOrderedAnswer, PrintsAnswer, PrintsInOrder}
 use Rattle.joinplan.specs.Readings.{AgreesTold, Held, Reading, after, content_of, fold_in}
 use Rattle.joinplan.specs.Words.{Command, Run, Check, command_of}
-use Rattle.jp_resolve.proofs.ResolvedLaws.{query_good}
-use Rattle.joinplan.proofs.TableLemmas.{only_one, set_loaded, still_loaded, listed_at}
+use Rattle.joinplan.proofs.StatementLemmas.{found, statement_found}
+use Rattle.joinplan.proofs.TableLemmas.{all_of_each, only_one, set_loaded, still_loaded}
 
 -- a value comes of a value of the first part
 came_of : {A B : Type 0} (names : List (List ℕ)) (answer : Result A Refusal) (next : A → Reading B) (b : B) → (after names answer next).answer ≡ Ok b → (a : A) × (answer ≡ Ok a) × ((next a).answer ≡ Ok b)
 came_of names (Ok a) next b e = (a, refl, e)
 came_of names (Err r) next b e = cc
-
-found : {A : Type 0} (r : Refusal) (o : Option A) (v : A) → or_refuse r o ≡ Ok v → o ≡ Some v
-found r (Some x) v e = cc
-found r None v e = cc
-
-catalogue_found : (judged : Read Catalog) (catalog : Catalog) → catalogue_or_refuse judged ≡ Ok catalog → judged ≡ Ok catalog
-catalogue_found (Ok c) catalog e = cc
-catalogue_found (Err error) catalog e = cc
-
-loaded : (name : List ℕ) (judged : Judged Rows) (rows : Rows) → rows_or_refuse name judged ≡ Ok rows → judged ≡ Ok rows
-loaded name (Ok x) rows e = cc
-loaded name (Err x) rows e = cc
 
 content_held : (held : Held) (name : List ℕ) (limit : ℕ) (r : Refusal) (there : Option (List ℕ)) (bytes : List ℕ) → held name ≡ there → content_of name limit r there ≡ Ok bytes → IsHeld held name limit bytes
 content_held held name limit r None bytes at e = cc
@@ -55,12 +49,12 @@ content_held held name limit r (Some text) bytes at e =
 has_catalogue : (held : Held) (name : List ℕ) (catalog : Catalog) → (catalogue_in held name).answer ≡ Ok catalog → HasCatalogue held name catalog
 has_catalogue held name catalog e =
     let (text, text_read, known) = came_of (text_in held name).names (text_in held name).answer _ catalog e in
-    record { text = text; is_held = content_held held name file_limit _ (held name) text refl text_read; catalogue_is = catalogue_found (catalogue_of text) catalog known }
+    record { text = text; is_held = content_held held name file_limit _ (held name) text refl text_read; catalogue_is = found refusal.Catalogue (catalogue_of text) catalog known }
 
 has_rows : (held : Held) (table : NamedTable) (rows : Rows) → (table_in held table).answer ≡ Ok rows → HasRows held table rows
 has_rows held table rows e =
     let (text, text_read, known) = came_of (text_in held table.1.file).names (text_in held table.1.file).answer _ rows e in
-    record { text = text; is_held = content_held held table.1.file file_limit _ (held table.1.file) text refl text_read; rows_are = loaded table.0 (table_of table.1 text) rows known }
+    record { text = text; is_held = content_held held table.1.file file_limit _ (held table.1.file) text refl text_read; rows_are = found (refusal.Data table.0) (table_of table.1 text) rows known }
 
 -- ---- the tables of a query
 
@@ -114,36 +108,26 @@ module _ (held : Held) (catalog : Catalog) where
     loaded : All (IsLoaded now) places
     kept : Kept before now
 
-  read_after : (tables now : TableRows) (place : ℕ) (table : NamedTable) (named : Option NamedTable) → named ≡ Some table → slice_get catalog.tables place ≡ Some table → place < length tables → Good tables → (read_into held tables place named).answer ≡ Ok now → After tables now (place ∷ [])
-  read_after tables now place table None is at below good e = cc
-  read_after tables now place table (Some own) is at below good e =
-      let (rows, rows_read, known) = came_of (table_in held own).names (table_in held own).answer _ now e in
-      let same : own ≡ table = cc in
+  read_after : (tables now : TableRows) (place : ℕ) (named : Option NamedTable) → slice_get catalog.tables place ≡ named → Good tables → (read_into held tables place named).answer ≡ Ok now → After tables now (place ∷ [])
+  read_after tables now place None is good e = cc
+  read_after tables now place (Some table) is good e =
+      let (rows, rows_read, known) = came_of (table_in held table).names (table_in held table).answer _ now e in
+      let below : place < length tables = omega (arith, good.places, slice_get_within catalog.tables place table is) in
       let done : slice_set tables place (Some rows) ≡ now = cc in
       subst (λ t. After tables t (place ∷ [])) done (record {
-        good = set_good tables place rows (table, at, subst (λ t. HasRows held t rows) same (has_rows held own rows rows_read)) good;
+        good = set_good tables place rows (table, is, has_rows held table rows rows_read) good;
         loaded = only_one (IsLoaded (slice_set tables place (Some rows))) place (set_loaded tables place rows below);
         kept = λ other h. still_loaded tables place other rows h;
       })
 
-  one_after : (tables now : TableRows) (place : ℕ) (table : NamedTable) (there : Option (Option Rows)) → slice_get tables place ≡ there → slice_get catalog.tables place ≡ Some table → place < length tables → Good tables
-      → (unless_loaded tables there (read_into held tables place (slice_get catalog.tables place))).answer ≡ Ok now → After tables now (place ∷ [])
-  one_after tables now place table (Some (Some rows)) is at below good e =
-      let same : tables ≡ now = cc in
-      subst (λ t. After tables t (place ∷ [])) same (record { good = good; loaded = only_one (IsLoaded tables) place (rows, is); kept = λ other h. h })
-  one_after tables now place table (Some None) is at below good e = read_after tables now place table (slice_get catalog.tables place) at at below good e
-  one_after tables now place table None is at below good e = read_after tables now place table (slice_get catalog.tables place) at at below good e
-
-  all_after : (places : List ℕ) (tables now : TableRows) → All (λ place. place < length catalog.tables) places → Good tables → (fold_in (with_table held catalog) tables places).answer ≡ Ok now → After tables now places
-  all_after [] tables now listed good e =
+  all_after : (places : List ℕ) (tables now : TableRows) → Good tables → (fold_in (with_table held catalog) tables places).answer ≡ Ok now → After tables now places
+  all_after [] tables now good e =
       let same : tables ≡ now = cc in
       subst (λ t. After tables t []) same (record { good = good; loaded = All-nil _; kept = λ other h. h })
-  all_after (place ∷ places) tables now listed good e =
+  all_after (place ∷ places) tables now good e =
       let (next, next_read, rest) = came_of (with_table held catalog tables place).names (with_table held catalog tables place).answer _ now e in
-      let below : place < length catalog.tables = listed 0 0 (omega arith) in
-      let (table, at) = listed_at catalog.tables place below in
-      let first = one_after tables next place table (slice_get tables place) refl at (omega (arith, good.places, below)) good next_read in
-      let more = all_after places next now (λ k d h. listed (suc k) d (omega (arith, h))) first.good rest in
+      let first = read_after tables next place (slice_get catalog.tables place) refl good next_read in
+      let more = all_after places next now first.good rest in
       record {
         good = more.good;
         loaded = All-append (IsLoaded now) (place ∷ []) places (All-weaker (IsLoaded next) (IsLoaded now) more.kept (place ∷ []) first.loaded) more.loaded;
@@ -155,34 +139,37 @@ module _ (held : Held) (catalog : Catalog) where
       let (table, at, is) = good.from place rows stored in
       record { table = table; listed = at; rows = rows; rows_are = is; stored = stored }
 
-  has_tables : (stmt : Stmt) (query : Query) (tables : TableRows) → query_of catalog stmt ≡ Some query → (tables_read held catalog query).answer ≡ Ok tables → HasTables held catalog query tables
-  has_tables stmt query tables is e =
-      let listed : All (λ place. place < length catalog.tables) (tables_in query) =
-      subst (λ n. All (λ place. place < n) (tables_in query)) (length-map catalog.tables table_columns) (query_good catalog stmt query is).typed.tables in
-      let done = all_after (tables_in query) (none_loaded catalog) tables listed none_good e in
-      record { places = done.good.places; named = All-weaker (IsLoaded tables) (HasPlace held catalog tables) (placed tables done.good) (tables_in query) done.loaded }
+  has_tables : (query : Query) (tables : TableRows) → (tables_read held catalog query).answer ≡ Ok tables → HasTables held catalog query tables
+  has_tables query tables e =
+      let done = all_after (tables_mentioned query) (none_loaded catalog) tables none_good e in
+      record { places = done.good.places; named = All-weaker (IsLoaded tables) (HasPlace held catalog tables) (placed tables done.good) (tables_in query) (all_of_each (IsLoaded tables) (tables_in query) done.loaded) }
 
-run_answer : (held : Held) (catalogue statement bytes : List ℕ) → (run_in catalogue statement held).answer ≡ Ok bytes → IsMeaning held catalogue statement bytes
-run_answer held catalogue statement bytes e =
-    let (catalog, catalog_read, rest) = came_of (catalogue_in held catalogue).names (catalogue_in held catalogue).answer (query_in held statement) bytes e in
-    let (stmt, stmt_read, selected) = came_of (statement_in held statement).names (statement_in held statement).answer (selected_in held catalog) bytes rest in
-    let (source, source_read, stmt_known) = came_of (source_in held statement).names (source_in held statement).answer _ stmt stmt_read in
-    let (query, query_known, output) = came_of [] (or_refuse refusal.NotBuilt (query_of catalog stmt)) (output_in held catalog) bytes selected in
-    let (tables, tables_are, printed_known) = came_of (tables_read held catalog query).names (tables_read held catalog query).answer _ bytes output in
-    let query_is = found refusal.NotBuilt (query_of catalog stmt) query query_known in
-    record {
-      catalog = catalog;
-      catalogue_is = has_catalogue held catalogue catalog catalog_read;
-      source = source;
-      source_held = content_held held statement statement_limit _ (held statement) source refl source_read;
-      stmt = stmt;
-      statement_is = found refusal.NotBuilt (statement_of source) stmt stmt_known;
-      query = query;
-      query_is = query_is;
-      tables = tables;
-      tables_are = has_tables held catalog stmt query tables query_is tables_are;
-      printed = cc;
-    }
+module _ (law : (src : Bytes) → MatchResult (cutting.answer src) (Tokens src) (Refused src)) where
+  run_answer : (held : Held) (catalogue statement bytes : List ℕ) → (run_in catalogue statement held).answer ≡ Ok bytes → IsInItsOrder held catalogue statement bytes
+  run_answer held catalogue statement bytes e =
+      let (catalog, catalog_read, rest) = came_of (catalogue_in held catalogue).names (catalogue_in held catalogue).answer (query_in held statement) bytes e in
+      let (stmt, stmt_read, selected) = came_of (statement_in held statement).names (statement_in held statement).answer (selected_in held catalog) bytes rest in
+      let (source, source_read, stmt_known) = came_of (source_in held statement).names (source_in held statement).answer _ stmt stmt_read in
+      let (query, query_known, output) = came_of [] (query_of catalog stmt) (output_in held catalog) bytes selected in
+      let (tables, tables_are, printed_known) = came_of (tables_read held catalog query).names (tables_read held catalog query).answer _ bytes output in
+      record {
+        meant = record {
+          catalog = catalog;
+          catalogue_is = has_catalogue held catalogue catalog catalog_read;
+          source = source;
+          source_held = content_held held statement statement_limit _ (held statement) source refl source_read;
+          stmt = stmt;
+          statement_is = statement_found law source stmt stmt_known;
+          query = query;
+          query_is = found resolve_refusal (resolved catalog stmt) query query_known;
+          tables = tables;
+          tables_are = has_tables held catalog query tables tables_are;
+          rows = meaning (rows_of_tables tables) query no_outer_rows;
+          rows_are = refl;
+          printed = cc;
+        };
+        in_order = rows_in_order (rows_of_tables tables) query no_outer_rows;
+      }
 
 -- ---- `check`
 
@@ -204,11 +191,21 @@ check_answer held catalogue bytes e =
     let (more, counted, all) = counts_after held catalog.tables [] bytes rest in
     record { catalog = catalog; catalogue_is = has_catalogue held catalogue catalog catalog_read; counted = subst (AreCounted held catalog.tables) (sym all) counted }
 
-words_answer : (held : Held) (command : Option Command) (bytes : List ℕ) → (answer_in command held).answer ≡ Ok bytes → IsAnswerTo held command bytes
-words_answer held None bytes e = cc
-words_answer held (Some (Run catalogue statement)) bytes e = run_answer held catalogue statement bytes e
-words_answer held (Some (Check catalogue)) bytes e = check_answer held catalogue bytes e
+module _ (law : (src : Bytes) → MatchResult (cutting.answer src) (Tokens src) (Refused src)) where
+  words_answer : (held : Held) (command : Option Command) (bytes : List ℕ) → (answer_in command held).answer ≡ Ok bytes → IsAnswerTo held command bytes
+  words_answer held None bytes e = cc
+  words_answer held (Some (Run catalogue statement)) bytes e = (run_answer law held catalogue statement bytes e).meant
+  words_answer held (Some (Check catalogue)) bytes e = check_answer held catalogue bytes e
 
-pub prints_answer : (words : List (List ℕ)) (contents : Option Held) (before now : Option (List ℕ)) (v : Vec ℕ Global) → AgreesTold (λ (w : Vec ℕ Global). w.items) (Ok v) contents (answer_of words) → TookMore before v.items now → PrintsAnswer contents words before now
-prints_answer words None before now v h took = tt
-prints_answer words (Some held) before now v h took = record { bytes = v.items; answer = words_answer held (command_of words) v.items h; took = took }
+  words_ordered : (held : Held) (command : Option Command) (bytes : List ℕ) → (answer_in command held).answer ≡ Ok bytes → IsOrderedAnswer held command bytes
+  words_ordered held None bytes e = cc
+  words_ordered held (Some (Run catalogue statement)) bytes e = run_answer law held catalogue statement bytes e
+  words_ordered held (Some (Check catalogue)) bytes e = tt
+
+  pub prints_answer : (words : List (List ℕ)) (contents : Option Held) (before now : Option (List ℕ)) (v : Vec ℕ Global) → AgreesTold (λ (w : Vec ℕ Global). w.items) (Ok v) contents (answer_of words) → TookMore before v.items now → PrintsAnswer contents words before now
+  prints_answer words None before now v h took = tt
+  prints_answer words (Some held) before now v h took = record { bytes = v.items; answer = words_answer held (command_of words) v.items h; took = took }
+
+  pub prints_in_order : (words : List (List ℕ)) (contents : Option Held) (before now : Option (List ℕ)) (v : Vec ℕ Global) → AgreesTold (λ (w : Vec ℕ Global). w.items) (Ok v) contents (answer_of words) → TookMore before v.items now → PrintsInOrder contents words before now
+  prints_in_order words None before now v h took = tt
+  prints_in_order words (Some held) before now v h took = record { bytes = v.items; ordered = words_ordered held (command_of words) v.items h; took = took }

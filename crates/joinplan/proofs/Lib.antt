@@ -1,7 +1,8 @@
 pub mod LineLemmas
 pub mod OutcomeLemmas
 pub mod ReadingLemmas
-pub mod WriterLemmas
-pub mod MentionLemmas
+pub mod StatementLemmas
 pub mod TableLemmas
 pub mod HeadlineLemmas
+pub mod SureLemmas
+pub mod HeldLemmas

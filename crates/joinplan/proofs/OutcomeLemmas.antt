@@ -11,6 +11,7 @@ use Rattle.joinplan.specs.Faults.{Counts, IsExplained, MayBeRead}
 use Rattle.joinplan.specs.Outcomes.{Answer, IsCause, IsCounted, IsOutput, WrotePart, answer_told}
 use Rattle.joinplan.specs.Words.{Command}
 use Rattle.joinplan.specs.Readings.{AgreesTold, Held}
+use Rattle.joinplan.specs.Refusals.{IsSaid}
 use Rattle.joinplan.proofs.LineLemmas.{failed}
 
 abbrev refused : Refusal → Result (Vec ℕ Global) Refusal
@@ -35,7 +36,9 @@ explained_counted May before now refusal.WriteFault h = tt
 explained_counted May before now refusal.Memory h = tt
 explained_counted May before now (refusal.Catalogue error) h = tt
 explained_counted May before now (refusal.Data table error) h = tt
-explained_counted May before now refusal.NotBuilt h = tt
+explained_counted May before now (refusal.Statement what at) h = tt
+explained_counted May before now (refusal.TooDeep at) h = tt
+explained_counted May before now (refusal.TooManyTables count) h = tt
 explained_counted May before now (refusal.FileTooLarge name) h = tt
 explained_counted May before now refusal.StatementTooLarge h = tt
 
@@ -43,6 +46,23 @@ explained_counted May before now refusal.StatementTooLarge h = tt
 pub counted : (command : Option Command) (before now : Counts) (r : Refusal) → (command ≢ None → IsExplained (MayBeRead command) before now r) → (command ≡ None → refused r ≡ refused refusal.Usage) → IsCounted before now r
 counted (Some words) before now r explained usage = explained_counted (MayBeRead (Some words)) before now r (explained (λ e. cc))
 counted None before now r explained usage = let is : r ≡ refusal.Usage = let e = usage refl in cc in subst (IsCounted before now) (sym is) tt
+
+explained_said : (May : List ℕ → Type 0) (before now : Counts) (r : Refusal) → IsExplained May before now r → IsSaid r
+explained_said May before now (refusal.ReadFault name) h = tt
+explained_said May before now refusal.Usage h = tt
+explained_said May before now refusal.WriteFault h = tt
+explained_said May before now refusal.Memory h = tt
+explained_said May before now (refusal.Catalogue error) h = h
+explained_said May before now (refusal.Data table error) h = h
+explained_said May before now (refusal.Statement what at) h = tt
+explained_said May before now (refusal.TooDeep at) h = tt
+explained_said May before now (refusal.TooManyTables count) h = tt
+explained_said May before now (refusal.FileTooLarge name) h = tt
+explained_said May before now refusal.StatementTooLarge h = tt
+
+pub said : (command : Option Command) (before now : Counts) (r : Refusal) → (command ≢ None → IsExplained (MayBeRead command) before now r) → (command ≡ None → refused r ≡ refused refusal.Usage) → IsSaid r
+said (Some words) before now r explained usage = explained_said (MayBeRead (Some words)) before now r (explained (λ e. cc))
+said None before now r explained usage = let is : r ≡ refusal.Usage = let e = usage refl in cc in subst IsSaid (sym is) tt
 
 -- before the output is made no write can fail
 pub no_write : (command : Option Command) (before now : Counts) (r : Refusal) → (command ≢ None → IsExplained (MayBeRead command) before now r) → (command ≡ None → refused r ≡ refused refusal.Usage) → r ≢ refusal.WriteFault
@@ -57,6 +77,8 @@ refusal_told words (Some held) refusal.Usage h other = h
 refusal_told words (Some held) refusal.Memory h other = tt
 refusal_told words (Some held) (refusal.Catalogue error) h other = h
 refusal_told words (Some held) (refusal.Data table error) h other = h
-refusal_told words (Some held) refusal.NotBuilt h other = h
+refusal_told words (Some held) (refusal.Statement what at) h other = h
+refusal_told words (Some held) (refusal.TooDeep at) h other = h
+refusal_told words (Some held) (refusal.TooManyTables count) h other = h
 refusal_told words (Some held) (refusal.FileTooLarge name) h other = h
 refusal_told words (Some held) refusal.StatementTooLarge h other = h

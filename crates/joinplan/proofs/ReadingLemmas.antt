@@ -1,5 +1,5 @@
 -- Readings in a row, and what a read of one file says of them.
-use Rattle.std.proofs.Common.{◌≡◌, ℕ, ◌+◌, ◌≤◌, suc, inl, inr, take, drop, List, [], ◌∷◌, ◌++◌, length, Option, Some, None, Result, Ok, Err, Vec, Global, refl, sym, ◌∙◌, ap, subst, arith, cond}
+use Rattle.std.proofs.Common.{◌≡◌, ◌≢◌, ℕ, ◌+◌, ◌≤◌, suc, inl, inr, take, drop, List, [], ◌∷◌, ◌++◌, length, Option, Some, None, Result, Ok, Err, Vec, Global, refl, sym, ◌∙◌, ap, subst, arith, cond}
 use Rattle.std.specs.Prelude.{Contains, IfErr, slice_get}
 use Rattle.std.proofs.lemmas.Bool.{le-leb, lt-leb}
 use Rattle.std.proofs.lemmas.List.{take_more, take_all, take-append-drop}
@@ -9,6 +9,7 @@ use Rattle.std.proofs.lemmas.List.Elements.{Contains-append_left, Contains-appen
 use Rattle.jp_io.specs.Files.{Rose, WholeIfThere, ReadsWhole}
 use Rattle.jp_io.specs.declared.reading.FileError.TheVariants as file_error
 use Rattle.jp_table.specs.declared.error.TableError.{TableError}
+use Rattle.jp_table.specs.declared.error.TableError.TheVariants as table_error
 use Rattle.joinplan.specs.declared.refusal.Refusal.{Refusal}
 use Rattle.joinplan.specs.declared.refusal.Refusal.TheVariants as refusal
 use Rattle.joinplan.specs.Faults.{Counts, IsExplained}
@@ -24,7 +25,9 @@ widened names rest (refusal.ReadFault name) h = Contains-append_right names rest
 widened names rest refusal.Usage h = h
 widened names rest (refusal.Catalogue error) h = h
 widened names rest (refusal.Data table error) h = h
-widened names rest refusal.NotBuilt h = h
+widened names rest (refusal.Statement what at) h = h
+widened names rest (refusal.TooDeep at) h = h
+widened names rest (refusal.TooManyTables count) h = h
 widened names rest (refusal.FileTooLarge name) h = h
 widened names rest refusal.StatementTooLarge h = h
 widened names rest refusal.WriteFault h = h
@@ -55,7 +58,9 @@ agrees_stop first next (refusal.ReadFault name) h = first_names first.names firs
 agrees_stop first next refusal.Usage h = stopped_at first next refusal.Usage h
 agrees_stop first next (refusal.Catalogue error) h = stopped_at first next (refusal.Catalogue error) h
 agrees_stop first next (refusal.Data table error) h = stopped_at first next (refusal.Data table error) h
-agrees_stop first next refusal.NotBuilt h = stopped_at first next refusal.NotBuilt h
+agrees_stop first next (refusal.Statement what at) h = stopped_at first next (refusal.Statement what at) h
+agrees_stop first next (refusal.TooDeep at) h = stopped_at first next (refusal.TooDeep at) h
+agrees_stop first next (refusal.TooManyTables count) h = stopped_at first next (refusal.TooManyTables count) h
 agrees_stop first next (refusal.FileTooLarge name) h = stopped_at first next (refusal.FileTooLarge name) h
 agrees_stop first next refusal.StatementTooLarge h = stopped_at first next refusal.StatementTooLarge h
 agrees_stop first next refusal.WriteFault h = stopped_at first next refusal.WriteFault h
@@ -111,9 +116,11 @@ explained_more May May' before between now more kept refusal.Usage h = h
 explained_more May May' before between now more kept refusal.WriteFault h = h
 explained_more May May' before between now more kept (refusal.ReadFault name) h = (more name h.0, omega (arith, h.1, kept name))
 explained_more May May' before between now more kept refusal.Memory h = tt
-explained_more May May' before between now more kept (refusal.Catalogue error) h = tt
-explained_more May May' before between now more kept (refusal.Data table error) h = tt
-explained_more May May' before between now more kept refusal.NotBuilt h = tt
+explained_more May May' before between now more kept (refusal.Catalogue error) h = h
+explained_more May May' before between now more kept (refusal.Data table error) h = h
+explained_more May May' before between now more kept (refusal.Statement what at) h = tt
+explained_more May May' before between now more kept (refusal.TooDeep at) h = tt
+explained_more May May' before between now more kept (refusal.TooManyTables count) h = tt
 explained_more May May' before between now more kept (refusal.FileTooLarge name) h = tt
 explained_more May May' before between now more kept refusal.StatementTooLarge h = tt
 
@@ -125,9 +132,9 @@ pub explained_large : (name : List ℕ) (before now : Counts) (r : Refusal) → 
 explained_large name before now r (inl memory) = subst (IsExplained (λ n. n ≡ name) before now) (sym memory) tt
 explained_large name before now r (inr is) = subst (IsExplained (λ n. n ≡ name) before now) (sym is) tt
 
-pub explained_data : (table name : List ℕ) (error : TableError) (before now : Counts) (r : Refusal) → IsNamed (λ n. refusal.Data n error) table r → IsExplained (λ n. n ≡ name) before now r
-explained_data table name error before now r (inl memory) = subst (IsExplained (λ n. n ≡ name) before now) (sym memory) tt
-explained_data table name error before now r (inr is) = subst (IsExplained (λ n. n ≡ name) before now) (sym is) tt
+pub explained_data : (table name : List ℕ) (error : TableError) (before now : Counts) (r : Refusal) → error ≢ table_error.Memory → IsNamed (λ n. refusal.Data n error) table r → IsExplained (λ n. n ≡ name) before now r
+explained_data table name error before now r other (inl memory) = subst (IsExplained (λ n. n ≡ name) before now) (sym memory) tt
+explained_data table name error before now r other (inr is) = subst (IsExplained (λ n. n ≡ name) before now) (sym is) other
 
 -- an answer that is known without a file
 pub told_known : {A : Type 0} (contents : Option Held) (answer : Result A Refusal) (value : A) → answer ≡ Ok value → AgreesTold {X = A} (λ a. a) (Ok value) contents (λ held. known answer)

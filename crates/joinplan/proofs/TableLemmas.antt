@@ -1,11 +1,11 @@
 -- Tables that are loaded one after the other belong to the schema of their catalogue.
-use Rattle.std.proofs.Common.{◌≡◌, ◌^◌, ℤ, pos, negsuc, ◌∙◌, ap, sym, subst, refl, ℕ, zero, suc, ◌<◌, ◌≤◌, List, [], ◌∷◌, ◌++◌, ◌+◌, take, length, map, Option, Some, None, arith}
+use Rattle.std.proofs.Common.{◌≡◌, ◌^◌, ℤ, pos, negsuc, ◌∙◌, ap, sym, subst, refl, ℕ, zero, suc, ◌<◌, ◌≤◌, List, [], ◌∷◌, ◌++◌, ◌+◌, take, length, map, Option, Some, None, arith, get_or}
 use Rattle.std.specs.Prelude.{All, Any, nat_abs, slice_get, slice_set, FitsSigned, replicate}
 use Rattle.std.specs.Int.{w64}
 use Rattle.std.specs.List.{slice_index_or}
 use Rattle.std.specs.Option.{option_map}
 use Rattle.std.proofs.lemmas.List.{length-map, take_all, take_more}
-use Rattle.std.proofs.lemmas.List.Elements.{All-append, All-weaker}
+use Rattle.std.proofs.lemmas.List.Elements.{All-append, All-contains, All-weaker, Contains-get_or}
 use Rattle.std.proofs.lemmas.Option.{get_or_from_slice_get, slice_get-map, slice_get_within}
 use Rattle.jp_base.specs.declared.values.Value.{Value}
 use Rattle.jp_base.specs.declared.values.Value.TheVariants as value
@@ -14,14 +14,16 @@ use Rattle.jp_base.specs.declared.values.Ty.TheVariants as ty
 use Rattle.jp_catalog.specs.declared.types.Catalog.{Catalog}
 use Rattle.jp_catalog.specs.declared.types.TableDef.{TableDef}
 use Rattle.jp_query.specs.Tables.{TableRows, IsLoaded, Belong, IsCellOf, IsRowOf as IsRowOfColumns}
+use Rattle.jp_query.specs.Mentions.{first_of_each}
 use Rattle.jp_query.specs.Scopes.{Column, Schema}
+use Rattle.jp_laws.proofs.MentionLaws.{same_members}
 use Rattle.jp_table.specs.Keys.{KeysHold}
 use Rattle.jp_table.specs.Loading.{column_types}
 use Rattle.jp_table.specs.Rows.{FitsColumn, IsRowOf}
-use Rattle.jp_resolve.specs.Schemas.{schema_of, schema_column, schema_columns, table_columns}
+use Rattle.jp_resolution.specs.Schemas.{schema_of, schema_column, schema_columns, table_columns}
 use Rattle.joinplan.specs.Answers.{NamedTable, none_loaded}
 use Rattle.joinplan.specs.Faults.{IsTableFile}
-use Rattle.joinplan.specs.Mentions.{KeysKept}
+use Rattle.joinplan.specs.Loaded.{KeysKept}
 
 none_belong : (tables : List NamedTable) → Belong (map table_columns tables) (map (λ table. None) tables)
 none_belong [] = tt
@@ -150,3 +152,12 @@ set_kept (own ∷ tables) (Some others ∷ loaded) zero table rows h at keys =
     (subst (λ (t : NamedTable). KeysHold t.1 rows) (sym same) keys, h.1)
 set_kept (own ∷ tables) (None ∷ loaded) (suc place) table rows h at keys = set_kept tables loaded place table rows h at keys
 set_kept (own ∷ tables) (Some others ∷ loaded) (suc place) table rows h at keys = (h.0, set_kept tables loaded place table rows h.1 at keys)
+
+-- ---- the tables that are mentioned
+
+-- what holds of each number where it first stands holds of all, and the other way round
+pub all_of_each : (P : ℕ → Type 0) (numbers : List ℕ) → All P (first_of_each numbers) → All P numbers
+all_of_each P numbers all = λ k d below. All-contains P (first_of_each numbers) (get_or numbers k d) all ((same_members numbers (get_or numbers k d)).1 (Contains-get_or numbers k d below))
+
+pub firsts_of_all : (P : ℕ → Type 0) (numbers : List ℕ) → All P numbers → All P (first_of_each numbers)
+firsts_of_all P numbers all = λ k d below. All-contains P numbers (get_or (first_of_each numbers) k d) all ((same_members numbers (get_or (first_of_each numbers) k d)).0 (Contains-get_or (first_of_each numbers) k d below))

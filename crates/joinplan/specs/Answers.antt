@@ -1,6 +1,7 @@
 -- The answer to the words, where the contents of the files are told: the first refusal, or the output.
--- The order: words; catalogue, its size, its text; for `run` statement, its size, its text, its names, and each table in
--- order of first mention; for `check` each table of the catalogue. Of a table: its size, its text.
+-- The order: words; catalogue, its size, its text; for `run` statement, its size, its tokens, its nesting, its grammar, the
+-- count of its entries, its names, and each table in order of first mention; for `check` each table of the catalogue. Of a
+-- table: its size, its text.
 use Rattle.std.specs.Prelude.{ℕ, List, [], ◌++◌, length, map, Option, Some, None, Result, Ok, Err, codes, decimal, slice_get, slice_set}
 use Rattle.jp_base.specs.declared.values.Value.{Value}
 use Rattle.jp_catalog.specs.Reading.{Read, catalogue_of}
@@ -8,16 +9,20 @@ use Rattle.jp_catalog.specs.declared.types.Catalog.{Catalog}
 use Rattle.jp_catalog.specs.declared.types.TableDef.{TableDef}
 use Rattle.jp_query.specs.Tables.{TableRows, rows_of_tables}
 use Rattle.jp_query.specs.Meaning.{no_outer_rows, meaning}
-use Rattle.jp_first.specs.First.{statement_of}
+use Rattle.jp_query.specs.Mentions.{tables_mentioned}
+use Rattle.jp_lex.specs.Answer as cutting
+use Rattle.jp_lex.specs.Cutting.{Lexeme}
+use Rattle.jp_lex.specs.declared.token.LexError.{LexError}
+use Rattle.jp_ast.specs.Seen.{seen}
 use Rattle.jp_ast.specs.declared.tree.Stmt.{Stmt}
-use Rattle.jp_query.specs.Parts.{tables_in}
-use Rattle.jp_query.specs.declared.Output.{Output, out-Output}
+use Rattle.jp_parse.specs.Verdict as reading
 use Rattle.jp_query.specs.declared.Query.{Query, out-Query}
 use Rattle.jp_table.specs.Loading.{Judged, table_of}
-use Rattle.jp_resolve.specs.Resolving.{query_of}
+use Rattle.jp_resolution.specs.Resolving.{resolved}
+use Rattle.jp_session.specs.Output.{output_text}
 use Rattle.joinplan.specs.declared.refusal.Refusal.{Refusal}
 use Rattle.joinplan.specs.declared.refusal.Refusal.TheVariants as refusal
-use Rattle.joinplan.specs.Output.{output_text}
+use Rattle.joinplan.specs.Refusals.{lex_refusal, parse_refusal, resolve_refusal}
 use Rattle.joinplan.specs.Readings.{Held, Reading, known, and_then, file_of, fold_in}
 use Rattle.joinplan.specs.Words.{Command, Run, Check, command_of}
 
@@ -28,22 +33,20 @@ file_limit = 67108864
 abbrev pub statement_limit : ℕ
 statement_limit = 65536
 
--- a value, or this refusal where there is none
-abbrev pub or_refuse : {A : Type 0} → Refusal → Option A → Result A Refusal
-or_refuse refusal (Some value) = Ok value
-or_refuse refusal None = Err refusal
+-- a part's answer, with its refusal as the program's
+abbrev pub refused_as : {A E : Type 0} → (E → Refusal) → Result A E → Result A Refusal
+refused_as named (Ok value) = Ok value
+refused_as named (Err error) = Err (named error)
 
 abbrev pub catalogue_or_refuse : Read Catalog → Result Catalog Refusal
-catalogue_or_refuse (Ok catalog) = Ok catalog
-catalogue_or_refuse (Err error) = Err (refusal.Catalogue error)
+catalogue_or_refuse read = refused_as refusal.Catalogue read
 
 abbrev pub Rows : Type 0
 Rows = List (List Value)
 
 -- the rows of the table of this name
 abbrev pub rows_or_refuse : List ℕ → Judged Rows → Result Rows Refusal
-rows_or_refuse name (Ok rows) = Ok rows
-rows_or_refuse name (Err error) = Err (refusal.Data name error)
+rows_or_refuse name judged = refused_as (refusal.Data name) judged
 
 -- a file that isn't a statement
 abbrev pub text_in : Held → List ℕ → Reading (List ℕ)
@@ -55,8 +58,17 @@ catalogue_in held name = and_then (text_in held name) (λ bytes. known (catalogu
 abbrev pub source_in : Held → List ℕ → Reading (List ℕ)
 source_in held name = file_of held name statement_limit refusal.StatementTooLarge
 
+-- the statement of tokens, or their refusal
+abbrev pub parsed : Result (List Lexeme) LexError → Result Stmt Refusal
+parsed (Ok tokens) = refused_as parse_refusal (reading.answer (map seen tokens))
+parsed (Err error) = Err (lex_refusal error)
+
+-- the statement of a source
+abbrev pub statement_of : List ℕ → Result Stmt Refusal
+statement_of source = parsed (cutting.answer source)
+
 abbrev pub statement_in : Held → List ℕ → Reading Stmt
-statement_in held name = and_then (source_in held name) (λ source. known (or_refuse refusal.NotBuilt (statement_of source)))
+statement_in held name = and_then (source_in held name) (λ source. known (statement_of source))
 
 abbrev pub NamedTable : Type 0
 NamedTable = List ℕ × TableDef
@@ -69,35 +81,31 @@ table_in held table = and_then (text_in held table.1.file) (λ bytes. known (row
 abbrev pub none_loaded : Catalog → TableRows
 none_loaded catalog = map (λ table. None) catalog.tables
 
--- the tables with that of a place
+-- the tables with that of a place; no query that is resolved names a place that the catalogue doesn't have
 abbrev pub read_into : Held → TableRows → ℕ → Option NamedTable → Reading TableRows
 read_into held tables place (Some table) = and_then (table_in held table) (λ rows. known (Ok (slice_set tables place (Some rows))))
-read_into held tables place None = known (Ok tables)
-
--- a table is read once
-abbrev pub unless_loaded : TableRows → Option (Option Rows) → Reading TableRows → Reading TableRows
-unless_loaded tables (Some (Some rows)) reading = known (Ok tables)
-unless_loaded tables _ reading = reading
+read_into held tables place None = known (Err refusal.Memory)
 
 abbrev pub with_table : Held → Catalog → TableRows → ℕ → Reading TableRows
-with_table held catalog tables place = unless_loaded tables (slice_get tables place) (read_into held tables place (slice_get catalog.tables place))
+with_table held catalog tables place = read_into held tables place (slice_get catalog.tables place)
 
--- the tables that the query names
+-- the tables that the query mentions, in order of first mention, each once
 abbrev pub tables_read : Held → Catalog → Query → Reading TableRows
-tables_read held catalog query = fold_in (with_table held catalog) (none_loaded catalog) (tables_in query)
-
-abbrev pub name_of : Output → List ℕ
-name_of output = (out-Output output).name
+tables_read held catalog query = fold_in (with_table held catalog) (none_loaded catalog) (tables_mentioned query)
 
 -- the query's meaning, printed
 abbrev pub printed : Query → TableRows → List ℕ
-printed query tables = output_text (map name_of (out-Query query).columns) (meaning (rows_of_tables tables) query no_outer_rows)
+printed query tables = output_text (out-Query query).columns (meaning (rows_of_tables tables) query no_outer_rows)
 
 abbrev pub output_in : Held → Catalog → Query → Reading (List ℕ)
 output_in held catalog query = and_then (tables_read held catalog query) (λ tables. known (Ok (printed query tables)))
 
+-- the query of a statement
+abbrev pub query_of : Catalog → Stmt → Result Query Refusal
+query_of catalog stmt = refused_as resolve_refusal (resolved catalog stmt)
+
 abbrev pub resolved_in : Catalog → Stmt → Reading Query
-resolved_in catalog stmt = known (or_refuse refusal.NotBuilt (query_of catalog stmt))
+resolved_in catalog stmt = known (query_of catalog stmt)
 
 abbrev pub selected_in : Held → Catalog → Stmt → Reading (List ℕ)
 selected_in held catalog stmt = and_then (resolved_in catalog stmt) (output_in held catalog)

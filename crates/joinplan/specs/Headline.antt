@@ -6,14 +6,18 @@ use Rattle.jp_catalog.specs.declared.types.Catalog.{Catalog}
 use Rattle.jp_io.specs.Sinks.{TookMore}
 use Rattle.jp_query.specs.Tables.{TableRows, rows_of_tables}
 use Rattle.jp_query.specs.Meaning.{no_outer_rows, meaning}
-use Rattle.jp_first.specs.First.{statement_of}
+use Rattle.jp_query.specs.InOrder.{IsInOrder}
+use Rattle.jp_lex.specs.Cutting.{Lexeme, Tokens}
+use Rattle.jp_ast.specs.Grammar.{Derives}
+use Rattle.jp_ast.specs.Nesting.{NestsWithin}
+use Rattle.jp_ast.specs.Seen.{seen}
 use Rattle.jp_ast.specs.declared.tree.Stmt.{Stmt}
 use Rattle.jp_query.specs.Parts.{tables_in}
 use Rattle.jp_query.specs.declared.Query.{Query, out-Query}
 use Rattle.jp_table.specs.Loading.{table_of}
-use Rattle.jp_resolve.specs.Resolving.{query_of}
-use Rattle.joinplan.specs.Answers.{NamedTable, Rows, count_line, file_limit, name_of, statement_limit}
-use Rattle.joinplan.specs.Output.{output_text}
+use Rattle.jp_resolution.specs.Resolving.{resolved}
+use Rattle.jp_session.specs.Output.{output_text}
+use Rattle.joinplan.specs.Answers.{NamedTable, Rows, count_line, file_limit, statement_limit}
 use Rattle.joinplan.specs.Readings.{Held}
 use Rattle.joinplan.specs.Words.{Command, Run, Check, command_of}
 
@@ -47,19 +51,34 @@ pub record HasTables (held : Held) (catalog : Catalog) (query : Query) (tables :
   pub places : length tables ≡ length catalog.tables
   pub named : All (HasPlace held catalog tables) (tables_in query)
 
--- these bytes are the meaning of the statement
+-- the statement of a source: its tokens nest no deeper than they may, and derive it
+pub record IsStatementOf (source : List ℕ) (stmt : Stmt) : Type 0 where
+  pub tokens : List Lexeme
+  pub cut : Tokens source tokens
+  pub nested : NestsWithin (map seen tokens)
+  pub derived : Derives (map seen tokens) stmt
+
+-- These bytes are the meaning of the statement: the names of its outputs, and the meaning's rows in their order, no one
+-- more, none less and none twice.
 pub record IsMeaning (held : Held) (catalogue statement : List ℕ) (bytes : List ℕ) : Type 0 where
   pub catalog : Catalog
   pub catalogue_is : HasCatalogue held catalogue catalog
   pub source : List ℕ
   pub source_held : IsHeld held statement statement_limit source
   pub stmt : Stmt
-  pub statement_is : statement_of source ≡ Some stmt
+  pub statement_is : IsStatementOf source stmt
   pub query : Query
-  pub query_is : query_of catalog stmt ≡ Some query
+  pub query_is : resolved catalog stmt ≡ Ok query
   pub tables : TableRows
   pub tables_are : HasTables held catalog query tables
-  pub printed : bytes ≡ output_text (map name_of (out-Query query).columns) (meaning (rows_of_tables tables) query no_outer_rows)
+  pub rows : Rows
+  pub rows_are : rows ≡ meaning (rows_of_tables tables) query no_outer_rows
+  pub printed : bytes ≡ output_text (out-Query query).columns rows
+
+-- these bytes are the meaning of the statement, and its rows stand in the order of its ORDER BY
+pub record IsInItsOrder (held : Held) (catalogue statement : List ℕ) (bytes : List ℕ) : Type 0 where
+  pub meant : IsMeaning held catalogue statement bytes
+  pub in_order : IsInOrder (rows_of_tables meant.tables) meant.query no_outer_rows meant.rows
 
 -- a line for each table, with the number of its rows
 abbrev pub AreCounted : Held → List NamedTable → List ℕ → Type 0
@@ -86,3 +105,18 @@ pub record TookAnswer (held : Held) (words : List (List ℕ)) (before now : Opti
 abbrev pub PrintsAnswer : Option Held → List (List ℕ) → Option (List ℕ) → Option (List ℕ) → Type 0
 PrintsAnswer None words before now = Unit {0}
 PrintsAnswer (Some held) words before now = TookAnswer held words before now
+
+-- the same of the order; the lines of `check` have none of their own
+abbrev pub IsOrderedAnswer : Held → Option Command → List ℕ → Type 0
+IsOrderedAnswer held None bytes = ⊥
+IsOrderedAnswer held (Some (Run catalogue statement)) bytes = IsInItsOrder held catalogue statement bytes
+IsOrderedAnswer held (Some (Check catalogue)) bytes = Unit {0}
+
+pub record TookOrdered (held : Held) (words : List (List ℕ)) (before now : Option (List ℕ)) : Type 0 where
+  pub bytes : List ℕ
+  pub ordered : IsOrderedAnswer held (command_of words) bytes
+  pub took : TookMore before bytes now
+
+abbrev pub PrintsInOrder : Option Held → List (List ℕ) → Option (List ℕ) → Option (List ℕ) → Type 0
+PrintsInOrder None words before now = Unit {0}
+PrintsInOrder (Some held) words before now = TookOrdered held words before now

@@ -2,11 +2,9 @@ pub mod Answers
 pub mod Faults
 pub mod Headline
 pub mod Lines
-pub mod Mentions
+pub mod Loaded
 pub mod Outcomes
-pub mod Output
 pub mod Readings
 pub mod Refusals
 pub mod Views
 pub mod Words
-pub mod Writers

@@ -1,13 +1,13 @@
 -- What a status says. The answer is known where the contents of the files are told.
-use Rattle.std.specs.Prelude.{◌≡◌, ℕ, ◌<◌, ◌⊎◌, List, length, take, Option, Some, None, option_map, IfSome, Ok, Err, Contains}
-use Rattle.jp_io.specs.Sinks.{Rose, TookMore}
+use Rattle.std.specs.Prelude.{◌≡◌, ℕ, ◌<◌, ◌⊎◌, ◌-◌, ◌^◌, Bool, true, List, length, take, Option, Some, None, option_map, IfSome, IfOk, Ok, Err, Contains}
+use Rattle.jp_io.specs.Sinks.{Rose, TookMore, HasRoom}
 use Rattle.joinplan.specs.declared.refusal.Refusal.{Refusal}
 use Rattle.joinplan.specs.declared.refusal.Refusal.TheVariants as refusal
 use Rattle.joinplan.specs.Answers.{answer_of}
 use Rattle.joinplan.specs.Faults.{Counts, MayBeRead}
 use Rattle.joinplan.specs.Readings.{Held, Reading}
 use Rattle.joinplan.specs.Lines.{TookLine}
-use Rattle.joinplan.specs.Refusals.{line_of, status_of}
+use Rattle.joinplan.specs.Refusals.{IsSaid, line_of, status_of}
 use Rattle.joinplan.specs.Words.{Command}
 
 abbrev pub Answer : Type 0
@@ -66,6 +66,30 @@ IsCause answer other = answer.answer ≡ Err other
 abbrev pub NoFault : List (List ℕ) → Counts → Counts → Type 0
 NoFault names before now = (name : List ℕ) → Contains names name → ¬ Rose (before name) (now name)
 
+-- ---- completeness
+
+-- all of the output was taken at status 0, or memory was wanting
+abbrev pub IsServed : List ℕ → ℕ → Option (List ℕ) → Option (List ℕ) → Type 0
+IsServed bytes result before now = ((result ≡ 0) × TookMore before bytes now) ⊎ (result ≡ 8)
+
+-- Where the answer is an output and nothing fails, it is served.
+abbrev pub IsComplete : Answer → ℕ → Counts → Counts → ℕ → ℕ → Option (List ℕ) → Option (List ℕ) → Type 0
+IsComplete answer result before now sink_before sink_now taken_before taken_now =
+    IfOk answer.answer (λ bytes. NoFault answer.names before now → ¬ Rose sink_before sink_now → IsServed bytes result taken_before taken_now)
+
+-- each of these names is known to be read without a fault, and its count isn't at the end of its range
+abbrev pub AreSure : (List ℕ → Bool) → Counts → List (List ℕ) → Type 0
+AreSure sound before names = (name : List ℕ) → Contains names name → (sound name ≡ true) × (before name < 2 ^ 64 - 1)
+
+-- Where the answer is an output, all files are surely read, and the sink has room for it, it is served.
+abbrev pub IsSurelyServed : (List ℕ → Bool) → Counts → Option ℕ → Answer → ℕ → Option (List ℕ) → Option (List ℕ) → Type 0
+IsSurelyServed sound before room answer result taken_before taken_now =
+    IfOk answer.answer (λ bytes. AreSure sound before answer.names → HasRoom room (length bytes) → IsServed bytes result taken_before taken_now)
+
+-- where the answer is an output for which the sink has room, no fault of the sink is counted
+abbrev pub RoomServes : Option ℕ → Answer → ℕ → ℕ → Type 0
+RoomServes room answer before now = IfOk answer.answer (λ bytes. HasRoom room (length bytes) → now ≡ before)
+
 -- of a file that couldn't be read a fault was counted
 abbrev pub IsCounted : Counts → Counts → Refusal → Type 0
 IsCounted before now (refusal.ReadFault name) = Rose (before name) (now name)
@@ -78,10 +102,11 @@ pub record Faults : Type 0 where
   pub files_before : Counts
   pub files_now : Counts
 
--- of the refusal behind a status the line was written
+-- of the refusal behind a status, which has a line, that line was written
 pub record IsReported (told : Option Answer) (status : ℕ) (before now : Option (List ℕ)) (faults : Faults) : Type 0 where
   pub cause : Refusal
   pub status_is : status_of cause ≡ status
   pub first : IfSome told (λ answer. IsCause answer cause)
+  pub said : IsSaid cause
   pub counted : IsCounted faults.files_before faults.files_now cause
   pub line : TookLine before now faults.sink_before faults.sink_now (line_of cause)

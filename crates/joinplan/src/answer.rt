@@ -1,11 +1,10 @@
 ghost use Rattle.std.specs.Prelude.{◌≡◌, ◌≢◌, ◌⊎◌, [], Err, IfErr, IfOk, None, Some, map, string_bytes};
-ghost use Rattle.jp_catalog.specs.Sound.{IsSound};
-ghost use Rattle.jp_io.specs.Files.{NoneFalls};
+ghost use Rattle.jp_catalog.specs.Sound.{AreOfSize, IsSound};
+ghost use Rattle.jp_io.specs.Files.{NoneFalls, StaysSound};
 ghost use Rattle.jp_query.specs.Tables.{AllLoaded, IsTypedOver};
-ghost use Rattle.jp_resolve.specs.Evaluable.{IsBuilt};
 ghost use Rattle.jp_query.specs.Conditions.{IsBounded, IsTyped};
 ghost use Rattle.jp_query.specs.Freshness.{IsFresh};
-ghost use Rattle.jp_resolve.specs.Schemas.{schema_of};
+ghost use Rattle.jp_resolution.specs.Schemas.{schema_of};
 ghost use Rattle.joinplan.specs.Answers.{answer_of, check_in, command_in, output_in, printed, query_in, run_in};
 ghost use Rattle.joinplan.specs.Faults.{IsExplained, IsTableFile, MayBeRead};
 ghost use Rattle.joinplan.specs.Readings.{AgreesTold};
@@ -15,9 +14,9 @@ ghost use Rattle.joinplan.specs.Words as spec;
 ghost use Rattle.joinplan.specs.Words.{command_of};
 
 use crate::checking::count_rows;
-use crate::output::print_rows;
 use crate::reading::{read_catalogue, read_statement};
 use crate::refusal::Refusal;
+use crate::statement::query_of;
 use crate::tables::read_tables;
 use crate::words::{Command, command_of};
 use jp_base::Memory;
@@ -25,7 +24,7 @@ use jp_catalog::Catalog;
 use jp_io::Files;
 use jp_naive::meaning_of;
 use jp_query::Query;
-use jp_resolve::{ResolveError, resolve_first};
+use jp_session::output_text;
 use jp_table::Tables;
 use std::alloc::Global;
 
@@ -33,6 +32,7 @@ use std::alloc::Global;
 pub fn answer<F: Files>(alloc: Global, words: &[String], files: &mut F) -> Result<Vec<u8>, Refusal>
     ensures same { F.contents files.new ≡ F.contents files.old }
     ensures kept { NoneFalls (F.faults files.old) (F.faults files.new) }
+    ensures sound { StaysSound (F.is_sound files.old) (F.is_sound files.new) (F.faults files.old) (F.faults files.new) }
     ensures told { AgreesTold (λ v. v.items) result (F.contents files.old) (answer_of (map string_bytes words.now)) }
     ensures explained { command_of (map string_bytes words.now) ≢ None → IfErr result (IsExplained (MayBeRead (command_of (map string_bytes words.now))) (F.faults files.old) (F.faults files.new)) }
     ensures usage { command_of (map string_bytes words.now) ≡ None → result ≡ Err refusal.Usage }
@@ -50,6 +50,7 @@ fn answer_command<F: Files>(
 ) -> Result<Vec<u8>, Refusal>
     ensures same { F.contents files.new ≡ F.contents files.old }
     ensures kept { NoneFalls (F.faults files.old) (F.faults files.new) }
+    ensures sound { StaysSound (F.is_sound files.old) (F.is_sound files.new) (F.faults files.old) (F.faults files.new) }
     ensures told { AgreesTold (λ v. v.items) result (F.contents files.old) (command_in (command_view command.entry)) }
     ensures explained { IfErr result (IsExplained (MayBeRead (Some (command_view command.entry))) (F.faults files.old) (F.faults files.new)) }
 {
@@ -71,6 +72,7 @@ fn answer_run<F: Files>(
 ) -> Result<Vec<u8>, Refusal>
     ensures same { F.contents files.new ≡ F.contents files.old }
     ensures kept { NoneFalls (F.faults files.old) (F.faults files.new) }
+    ensures sound { StaysSound (F.is_sound files.old) (F.is_sound files.new) (F.faults files.old) (F.faults files.new) }
     ensures told { AgreesTold (λ v. v.items) result (F.contents files.old) (run_in catalogue.now statement.now) }
     ensures explained { IfErr result (IsExplained (MayBeRead (Some (spec.Run catalogue.now statement.now))) (F.faults files.old) (F.faults files.new)) }
 {
@@ -82,6 +84,7 @@ fn answer_run<F: Files>(
 fn answer_check<F: Files>(alloc: Global, catalogue: &str, files: &mut F) -> Result<Vec<u8>, Refusal>
     ensures same { F.contents files.new ≡ F.contents files.old }
     ensures kept { NoneFalls (F.faults files.old) (F.faults files.new) }
+    ensures sound { StaysSound (F.is_sound files.old) (F.is_sound files.new) (F.faults files.old) (F.faults files.new) }
     ensures told { AgreesTold (λ v. v.items) result (F.contents files.old) (check_in catalogue.now) }
     ensures explained { IfErr result (IsExplained (MayBeRead (Some (spec.Check catalogue.now))) (F.faults files.old) (F.faults files.new)) }
 {
@@ -96,18 +99,17 @@ fn answer_query<F: Files>(
     statement: &str,
     files: &mut F,
 ) -> Result<Vec<u8>, Refusal>
-    requires { IsSound catalog.now }
+    requires sound { IsSound catalog.now }
+    requires size { AreOfSize catalog.now }
     ensures same { F.contents files.new ≡ F.contents files.old }
     ensures kept { NoneFalls (F.faults files.old) (F.faults files.new) }
+    ensures sound { StaysSound (F.is_sound files.old) (F.is_sound files.new) (F.faults files.old) (F.faults files.new) }
     ensures told { AgreesTold (λ v. v.items) result (F.contents files.old) (λ held. query_in held statement.now catalog.now) }
     ensures explained { IfErr result (IsExplained (λ n. (n ≡ statement.now) ⊎ IsTableFile catalog.now n) (F.faults files.old) (F.faults files.new)) }
 {
     let stmt = read_statement(alloc, files, statement)?;
-    match resolve_first(alloc, catalog, &stmt) {
-        Ok(query) => answer_resolved(alloc, catalog, &query, files),
-        Err(ResolveError::NotBuilt) => Err(Refusal::NotBuilt),
-        Err(ResolveError::Memory) => Err(Refusal::Memory),
-    }
+    let query = query_of(alloc, catalog, &stmt)?;
+    answer_resolved(alloc, catalog, &query, files)
 }
 
 /// The output of a query.
@@ -118,12 +120,13 @@ fn answer_resolved<F: Files>(
     files: &mut F,
 ) -> Result<Vec<u8>, Refusal>
     requires sound { IsSound catalog.now }
+    requires size { AreOfSize catalog.now }
     requires typed { IsTyped (schema_of catalog.now) [] query.now }
     requires bounded { IsBounded (schema_of catalog.now) [] query.now }
     requires fresh { IsFresh query.now }
-    requires built { IsBuilt query.now }
     ensures same { F.contents files.new ≡ F.contents files.old }
     ensures kept { NoneFalls (F.faults files.old) (F.faults files.new) }
+    ensures sound { StaysSound (F.is_sound files.old) (F.is_sound files.new) (F.faults files.old) (F.faults files.new) }
     ensures told { AgreesTold (λ v. v.items) result (F.contents files.old) (λ held. output_in held catalog.now query.now) }
     ensures explained { IfErr result (IsExplained (IsTableFile catalog.now) (F.faults files.old) (F.faults files.new)) }
 {
@@ -137,10 +140,9 @@ fn print_meaning(alloc: Global, query: &Query, tables: &Tables) -> Result<Vec<u8
     requires typed { IsTypedOver tables.now.list query.now }
     requires fresh { IsFresh query.now }
     requires loaded { AllLoaded tables.now.list query.now }
-    requires built { IsBuilt query.now }
     ensures { IfOk result (λ v. v.items ≡ printed query.now tables.now.list) }
 {
     let rows = meaning_of(alloc, query, tables)?;
-    let bytes = print_rows(alloc, query.columns.as_slice(), rows.as_slice())?;
+    let bytes = output_text(alloc, query.columns.as_slice(), rows.as_slice())?;
     Ok(bytes)
 }

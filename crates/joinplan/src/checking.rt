@@ -1,6 +1,6 @@
 ghost use Rattle.std.specs.Prelude.{◌≡◌, ◌<◌, ◌++◌, IfErr, IfSome, OnOk, length, slice_get};
-ghost use Rattle.jp_catalog.specs.Sound.{IsSound, IsSoundTable};
-ghost use Rattle.jp_io.specs.Files.{NoneFalls};
+ghost use Rattle.jp_catalog.specs.Sound.{AreOfSize, IsOfSize, IsSound, IsSoundTable};
+ghost use Rattle.jp_io.specs.Files.{NoneFalls, StaysSound};
 ghost use Rattle.joinplan.specs.Answers.{counted, counts_in, with_count};
 ghost use Rattle.joinplan.specs.Faults.{IsExplained, IsTableFile};
 ghost use Rattle.joinplan.specs.Readings.{AgreesTold};
@@ -19,9 +19,11 @@ pub fn count_rows<F: Files>(
     files: &mut F,
     catalog: &Catalog,
 ) -> Result<Vec<u8>, Refusal>
-    requires { IsSound catalog.now }
+    requires sound { IsSound catalog.now }
+    requires size { AreOfSize catalog.now }
     ensures same { F.contents files.new ≡ F.contents files.old }
     ensures kept { NoneFalls (F.faults files.old) (F.faults files.new) }
+    ensures sound { StaysSound (F.is_sound files.old) (F.is_sound files.new) (F.faults files.old) (F.faults files.new) }
     ensures told { AgreesTold (λ v. v.items) result (F.contents files.old) (λ held. counts_in held catalog.now) }
     ensures explained { IfErr result (IsExplained (IsTableFile catalog.now) (F.faults files.old) (F.faults files.new)) }
 {
@@ -41,9 +43,11 @@ fn count_place<F: Files>(
     text: &mut Vec<u8>,
 ) -> Result<(), Refusal>
     requires sound { IsSound catalog.now }
+    requires size { AreOfSize catalog.now }
     requires listed { place < length catalog.now.tables }
     ensures same { F.contents files.new ≡ F.contents files.old }
     ensures kept { NoneFalls (F.faults files.old) (F.faults files.new) }
+    ensures sound { StaysSound (F.is_sound files.old) (F.is_sound files.new) (F.faults files.old) (F.faults files.new) }
     ensures told { IfSome (slice_get catalog.now.tables place) (λ table. AgreesTold (λ _. text.new.items) result (F.contents files.old) (λ held. with_count held text.old.items table)) }
     ensures explained { IfErr result (IsExplained (IsTableFile catalog.now) (F.faults files.old) (F.faults files.new)) }
 {
@@ -61,9 +65,11 @@ fn count_table<F: Files>(
     def: &TableDef,
     text: &mut Vec<u8>,
 ) -> Result<(), Refusal>
-    requires { IsSoundTable def.now }
+    requires sound { IsSoundTable def.now }
+    requires size { IsOfSize def.now }
     ensures same { F.contents files.new ≡ F.contents files.old }
     ensures kept { NoneFalls (F.faults files.old) (F.faults files.new) }
+    ensures sound { StaysSound (F.is_sound files.old) (F.is_sound files.new) (F.faults files.old) (F.faults files.new) }
     ensures told { AgreesTold (λ _. text.new.items) result (F.contents files.old) (λ held. with_count held text.old.items (name.now, def.now)) }
     ensures explained { IfErr result (IsExplained (λ n. n ≡ def.now.file) (F.faults files.old) (F.faults files.new)) }
 {

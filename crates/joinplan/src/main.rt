@@ -3,9 +3,10 @@
 
 mod answer;
 mod checking;
-mod output;
+mod faults;
 mod reading;
 mod refusal;
+mod statement;
 mod tables;
 #[cfg(test)]
 mod tests;

@@ -1,7 +1,8 @@
-ghost use Rattle.std.specs.Prelude.{◌≡◌, ◌≤◌, ℕ, List, All, IfErr, IfOk, Ok, length};
+ghost use Rattle.std.specs.Prelude.{◌≡◌, ◌≤◌, ℕ, List, All, IfErr, IfOk, Ok, length, true};
 ghost use Rattle.jp_catalog.specs.Reading.{catalogue_of};
-ghost use Rattle.jp_catalog.specs.Sound.{IsSound, IsSoundTable};
-ghost use Rattle.jp_io.specs.Files.{NoneFalls};
+ghost use Rattle.jp_catalog.specs.Sound.{AreOfSize, IsOfSize, IsSound, IsSoundTable};
+ghost use Rattle.jp_io.specs.Files.{NoneFalls, StaysSound};
+ghost use Rattle.jp_statements.specs.Whole.{is_whole};
 ghost use Rattle.jp_table.specs.Keys.{KeysHold};
 ghost use Rattle.jp_table.specs.Loading.{column_types};
 ghost use Rattle.jp_table.specs.Rows.{IsRowOf};
@@ -12,10 +13,10 @@ ghost use Rattle.joinplan.specs.Refusals.{IsNamed};
 ghost use Rattle.joinplan.specs.declared.refusal.Refusal.TheVariants as refusal;
 
 use crate::refusal::Refusal;
+use crate::statement::statement_of;
 use jp_ast::Stmt;
 use jp_base::{Memory, Txt};
 use jp_catalog::{Catalog, CatalogError, TableDef, read_catalog};
-use jp_first::{FirstError, parse_first};
 use jp_io::{FileError, Files, read_file};
 use jp_table::{Table, TableError, load};
 use std::alloc::Global;
@@ -30,6 +31,7 @@ const STATEMENT_LIMIT: u64 = 65536;
 fn read_text<F: Files>(alloc: Global, files: &mut F, name: &str) -> Result<Vec<u8>, Refusal>
     ensures same { F.contents files.new ≡ F.contents files.old }
     ensures kept { NoneFalls (F.faults files.old) (F.faults files.new) }
+    ensures sound { StaysSound (F.is_sound files.old) (F.is_sound files.new) (F.faults files.old) (F.faults files.new) }
     ensures told { AgreesTold (λ v. v.items) result (F.contents files.old) (λ held. text_in held name.now) }
     ensures explained { IfErr result (IsExplained (λ n. n ≡ name.now) (F.faults files.old) (F.faults files.new)) }
 {
@@ -45,6 +47,7 @@ fn read_text<F: Files>(alloc: Global, files: &mut F, name: &str) -> Result<Vec<u
 fn read_source<F: Files>(alloc: Global, files: &mut F, name: &str) -> Result<Vec<u8>, Refusal>
     ensures same { F.contents files.new ≡ F.contents files.old }
     ensures kept { NoneFalls (F.faults files.old) (F.faults files.new) }
+    ensures sound { StaysSound (F.is_sound files.old) (F.is_sound files.new) (F.faults files.old) (F.faults files.new) }
     ensures told { AgreesTold (λ v. v.items) result (F.contents files.old) (λ held. source_in held name.now) }
     ensures explained { IfErr result (IsExplained (λ n. n ≡ name.now) (F.faults files.old) (F.faults files.new)) }
     ensures short { IfOk result (λ v. length v.items ≤ 65536) }
@@ -92,9 +95,11 @@ pub fn read_catalogue<F: Files>(
 ) -> Result<Catalog, Refusal>
     ensures same { F.contents files.new ≡ F.contents files.old }
     ensures kept { NoneFalls (F.faults files.old) (F.faults files.new) }
+    ensures sound { StaysSound (F.is_sound files.old) (F.is_sound files.new) (F.faults files.old) (F.faults files.new) }
     ensures told { AgreesTold (λ c. c) result (F.contents files.old) (λ held. catalogue_in held name.now) }
     ensures explained { IfErr result (IsExplained (λ n. n ≡ name.now) (F.faults files.old) (F.faults files.new)) }
-    ensures sound { IfOk result IsSound }
+    ensures good { IfOk result IsSound }
+    ensures size { IfOk result AreOfSize }
     ensures read { IfOk result (λ c. (bytes : List ℕ) × (catalogue_of bytes ≡ Ok c)) }
 {
     let bytes = read_text(alloc, files, name)?;
@@ -109,15 +114,14 @@ pub fn read_catalogue<F: Files>(
 pub fn read_statement<F: Files>(alloc: Global, files: &mut F, name: &str) -> Result<Stmt, Refusal>
     ensures same { F.contents files.new ≡ F.contents files.old }
     ensures kept { NoneFalls (F.faults files.old) (F.faults files.new) }
+    ensures sound { StaysSound (F.is_sound files.old) (F.is_sound files.new) (F.faults files.old) (F.faults files.new) }
     ensures told { AgreesTold (λ s. s) result (F.contents files.old) (λ held. statement_in held name.now) }
     ensures explained { IfErr result (IsExplained (λ n. n ≡ name.now) (F.faults files.old) (F.faults files.new)) }
+    ensures whole { IfOk result (λ s. is_whole s ≡ true) }
 {
     let source = read_source(alloc, files, name)?;
-    match parse_first(alloc, source.as_slice()) {
-        Ok(stmt) => Ok(stmt),
-        Err(FirstError::NotBuilt) => Err(Refusal::NotBuilt),
-        Err(FirstError::Memory) => Err(Refusal::Memory),
-    }
+    let stmt = statement_of(alloc, source.as_slice())?;
+    Ok(stmt)
 }
 
 /// Reads and loads a table. Its rows fit its columns, and its keys hold.
@@ -127,9 +131,11 @@ pub fn read_table<F: Files>(
     name: &str,
     def: &TableDef,
 ) -> Result<Table, Refusal>
-    requires { IsSoundTable def.now }
+    requires sound { IsSoundTable def.now }
+    requires size { IsOfSize def.now }
     ensures same { F.contents files.new ≡ F.contents files.old }
     ensures kept { NoneFalls (F.faults files.old) (F.faults files.new) }
+    ensures sound { StaysSound (F.is_sound files.old) (F.is_sound files.new) (F.faults files.old) (F.faults files.new) }
     ensures told { AgreesTold (λ t. t) result (F.contents files.old) (λ held. table_in held (name.now, def.now)) }
     ensures explained { IfErr result (IsExplained (λ n. n ≡ def.now.file) (F.faults files.old) (F.faults files.new)) }
     ensures fits { IfOk result (λ t. All (IsRowOf (column_types def.now)) t) }

@@ -1,9 +1,10 @@
-ghost use Rattle.std.specs.Prelude.{◌≡◌, ◌++◌, codes};
+ghost use Rattle.std.specs.Prelude.{◌≡◌, ◌≤◌, ◌++◌, codes};
 ghost use Rattle.jp_table.specs.declared.error.TableError.TheVariants as fault;
 ghost use Rattle.joinplan.specs.Lines.{TookLine, bytes_of};
-ghost use Rattle.joinplan.specs.Refusals.{catalogue_fault, catalogue_line, data_line, data_line_start, status_of, line_of, with_field};
+ghost use Rattle.joinplan.specs.Refusals.{catalogue_fault, catalogue_line, data_line, data_line_start, depth_line, line_of, statement_fault, statement_line, status_of, tables_line, with_field};
 ghost use Rattle.joinplan.specs.declared.refusal.Refusal.TheVariants as refusal;
 
+use crate::faults::{StatementFault, fault_words};
 use itoa::Buffer;
 use jp_base::{Memory, Txt};
 use jp_catalog::CatalogError;
@@ -19,12 +20,16 @@ pub enum Refusal {
     Catalogue(CatalogError),
     /// The text of the table of this name is refused.
     Data(Txt, TableError),
-    /// The statement has no form that is built, or a name in it takes no number column.
-    NotBuilt,
+    /// The statement is refused at this byte place.
+    Statement(StatementFault, u32),
     /// The file of this name has more than 67108864 bytes.
     FileTooLarge(Txt),
     /// The statement has more than 65536 bytes.
     StatementTooLarge,
+    /// The token at this byte place opens more than 64 places.
+    TooDeep(u32),
+    /// The statement has so many table references, which is more than 12.
+    TooManyTables(u32),
     /// The file of this name couldn't be read.
     ReadFault(Txt),
     /// The output couldn't be written.
@@ -53,9 +58,11 @@ impl Refusal {
             Refusal::Usage => 1,
             Refusal::Catalogue(_) => 2,
             Refusal::Data(_, _) => 3,
-            Refusal::NotBuilt => 4,
+            Refusal::Statement(_, _) => 4,
             Refusal::FileTooLarge(_) => 5,
             Refusal::StatementTooLarge => 5,
+            Refusal::TooDeep(_) => 5,
+            Refusal::TooManyTables(_) => 5,
             Refusal::ReadFault(_) => 6,
             Refusal::WriteFault => 7,
             Refusal::Memory => 8,
@@ -65,6 +72,7 @@ impl Refusal {
     /// Writes the line to `err` and gives the status. It takes no memory, and a fault of `err` changes nothing else.
     pub fn report<E: Sink>(&self, err: &mut E) -> u8
         ensures status { result ≡ status_of self.now }
+        ensures kept { E.faults err.old ≤ E.faults err.new }
         ensures line { TookLine (E.taken err.old) (E.taken err.new) (E.faults err.old) (E.faults err.new) (line_of self.now) }
     {
         let _ = self.write_line(err);
@@ -72,13 +80,14 @@ impl Refusal {
     }
 
     fn write_line<E: Sink>(&self, err: &mut E) -> Result<(), SinkError>
-        ensures { TookLine (E.taken err.old) (E.taken err.new) (E.faults err.old) (E.faults err.new) (line_of self.now) }
+        ensures kept { E.faults err.old ≤ E.faults err.new }
+        ensures line { TookLine (E.taken err.old) (E.taken err.new) (E.faults err.old) (E.faults err.new) (line_of self.now) }
     {
         match self {
             Refusal::Usage => write_pieces(err, &[USAGE]),
             Refusal::Catalogue(error) => write_catalogue_line(err, error),
             Refusal::Data(table, error) => write_data_line(err, table.as_str(), *error),
-            Refusal::NotBuilt => write_pieces(err, &["statement: not built\n"]),
+            Refusal::Statement(fault, at) => write_statement_line(err, *fault, *at),
             Refusal::FileTooLarge(name) => write_pieces(
                 err,
                 &["limit: file ", name.as_str(), " over 67108864 bytes\n"],
@@ -86,6 +95,8 @@ impl Refusal {
             Refusal::StatementTooLarge => {
                 write_pieces(err, &["limit: statement over 65536 bytes\n"])
             }
+            Refusal::TooDeep(at) => write_depth_line(err, *at),
+            Refusal::TooManyTables(count) => write_tables_line(err, *count),
             Refusal::ReadFault(name) => {
                 write_pieces(err, &["read fault: ", name.as_str(), "\n"])
             }
@@ -93,6 +104,47 @@ impl Refusal {
             Refusal::Memory => write_pieces(err, &["out of memory\n"]),
         }
     }
+}
+
+fn write_statement_line<E: Sink>(
+    err: &mut E,
+    fault: StatementFault,
+    at: u32,
+) -> Result<(), SinkError>
+    ensures kept { E.faults err.old ≤ E.faults err.new }
+    ensures line { TookLine (E.taken err.old) (E.taken err.new) (E.faults err.old) (E.faults err.new) (statement_line (statement_fault fault) at) }
+{
+    let mut first = Buffer::new();
+    let pieces = [
+        "statement: ",
+        fault_words(fault),
+        " at byte ",
+        first.format(at),
+        "\n",
+    ];
+    write_pieces(err, &pieces)
+}
+
+fn write_depth_line<E: Sink>(err: &mut E, at: u32) -> Result<(), SinkError>
+    ensures kept { E.faults err.old ≤ E.faults err.new }
+    ensures line { TookLine (E.taken err.old) (E.taken err.new) (E.faults err.old) (E.faults err.new) (depth_line at) }
+{
+    let mut first = Buffer::new();
+    let pieces = ["limit: nesting over 64 at byte ", first.format(at), "\n"];
+    write_pieces(err, &pieces)
+}
+
+fn write_tables_line<E: Sink>(err: &mut E, count: u32) -> Result<(), SinkError>
+    ensures kept { E.faults err.old ≤ E.faults err.new }
+    ensures line { TookLine (E.taken err.old) (E.taken err.new) (E.faults err.old) (E.faults err.new) (tables_line count) }
+{
+    let mut first = Buffer::new();
+    let pieces = [
+        "limit: ",
+        first.format(count),
+        " table references, at most 12\n",
+    ];
+    write_pieces(err, &pieces)
 }
 
 /// What is wrong in a catalogue, before the path where it is.
@@ -115,14 +167,16 @@ fn catalogue_fault(error: &CatalogError) -> (&str, &str)
 }
 
 fn write_catalogue_line<E: Sink>(err: &mut E, error: &CatalogError) -> Result<(), SinkError>
-    ensures { TookLine (E.taken err.old) (E.taken err.new) (E.faults err.old) (E.faults err.new) (catalogue_line (catalogue_fault error.now)) }
+    ensures kept { E.faults err.old ≤ E.faults err.new }
+    ensures line { TookLine (E.taken err.old) (E.taken err.new) (E.faults err.old) (E.faults err.new) (catalogue_line (catalogue_fault error.now)) }
 {
     let (fault, path) = catalogue_fault(error);
     write_pieces(err, &["catalogue: ", fault, path, "\n"])
 }
 
 fn write_data_line<E: Sink>(err: &mut E, table: &str, error: TableError) -> Result<(), SinkError>
-    ensures { TookLine (E.taken err.old) (E.taken err.new) (E.faults err.old) (E.faults err.new) (data_line table.now error) }
+    ensures kept { E.faults err.old ≤ E.faults err.new }
+    ensures line { TookLine (E.taken err.old) (E.taken err.new) (E.faults err.old) (E.faults err.new) (data_line table.now error) }
 {
     match error {
         TableError::Header => write_data(err, table, "header differs"),
@@ -139,7 +193,8 @@ fn write_data_line<E: Sink>(err: &mut E, table: &str, error: TableError) -> Resu
 }
 
 fn write_data<E: Sink>(err: &mut E, table: &str, fault: &str) -> Result<(), SinkError>
-    ensures { TookLine (E.taken err.old) (E.taken err.new) (E.faults err.old) (E.faults err.new) (data_line_start table.now ++ fault.now ++ codes "\n") }
+    ensures kept { E.faults err.old ≤ E.faults err.new }
+    ensures line { TookLine (E.taken err.old) (E.taken err.new) (E.faults err.old) (E.faults err.new) (data_line_start table.now ++ fault.now ++ codes "\n") }
 {
     write_pieces(err, &["data: table ", table, ": ", fault, "\n"])
 }
@@ -150,7 +205,8 @@ fn write_field_count<E: Sink>(
     at: u64,
     fields: u64,
 ) -> Result<(), SinkError>
-    ensures { TookLine (E.taken err.old) (E.taken err.new) (E.faults err.old) (E.faults err.new) (data_line table.now (fault.FieldCount at fields)) }
+    ensures kept { E.faults err.old ≤ E.faults err.new }
+    ensures line { TookLine (E.taken err.old) (E.taken err.new) (E.faults err.old) (E.faults err.new) (data_line table.now (fault.FieldCount at fields)) }
 {
     let mut first = Buffer::new();
     let mut second = Buffer::new();
@@ -175,7 +231,8 @@ fn write_field<E: Sink>(
     column: u32,
     what: &str,
 ) -> Result<(), SinkError>
-    ensures { TookLine (E.taken err.old) (E.taken err.new) (E.faults err.old) (E.faults err.new) (with_field (data_line_start table.now) at column ++ what.now ++ codes "\n") }
+    ensures kept { E.faults err.old ≤ E.faults err.new }
+    ensures line { TookLine (E.taken err.old) (E.taken err.new) (E.faults err.old) (E.faults err.new) (with_field (data_line_start table.now) at column ++ what.now ++ codes "\n") }
 {
     let mut first = Buffer::new();
     let mut second = Buffer::new();
@@ -194,7 +251,8 @@ fn write_field<E: Sink>(
 }
 
 fn write_null_in_key<E: Sink>(err: &mut E, table: &str, at: u64) -> Result<(), SinkError>
-    ensures { TookLine (E.taken err.old) (E.taken err.new) (E.faults err.old) (E.faults err.new) (data_line table.now (fault.NullInKey at)) }
+    ensures kept { E.faults err.old ≤ E.faults err.new }
+    ensures line { TookLine (E.taken err.old) (E.taken err.new) (E.faults err.old) (E.faults err.new) (data_line table.now (fault.NullInKey at)) }
 {
     let mut first = Buffer::new();
     let pieces = [
@@ -210,7 +268,8 @@ fn write_null_in_key<E: Sink>(err: &mut E, table: &str, at: u64) -> Result<(), S
 }
 
 fn write_repeat<E: Sink>(err: &mut E, table: &str, earlier: u64, at: u64) -> Result<(), SinkError>
-    ensures { TookLine (E.taken err.old) (E.taken err.new) (E.faults err.old) (E.faults err.new) (data_line table.now (fault.KeyRepeated earlier at)) }
+    ensures kept { E.faults err.old ≤ E.faults err.new }
+    ensures line { TookLine (E.taken err.old) (E.taken err.new) (E.faults err.old) (E.faults err.new) (data_line table.now (fault.KeyRepeated earlier at)) }
 {
     let mut first = Buffer::new();
     let mut second = Buffer::new();
@@ -230,7 +289,8 @@ fn write_repeat<E: Sink>(err: &mut E, table: &str, earlier: u64, at: u64) -> Res
 
 /// The pieces in a row, up to the first that fails.
 fn write_pieces<E: Sink>(err: &mut E, pieces: &[&str]) -> Result<(), SinkError>
-    ensures { TookLine (E.taken err.old) (E.taken err.new) (E.faults err.old) (E.faults err.new) (bytes_of pieces.now) }
+    ensures kept { E.faults err.old ≤ E.faults err.new }
+    ensures line { TookLine (E.taken err.old) (E.taken err.new) (E.faults err.old) (E.faults err.new) (bytes_of pieces.now) }
 {
     for piece in pieces {
         write_all(err, piece.as_bytes())?;

@@ -1,16 +1,12 @@
-#![tactic(auto, using(crate::proofs::MentionLemmas::equations))]
-
-ghost use Rattle.std.specs.Prelude.{◌≡◌, ◌<◌, ◌++◌, ℕ, All, IfErr, IfOk, OnOk, length, slice_get};
-ghost use Rattle.std.specs.List.{flat_map};
-ghost use Rattle.jp_catalog.specs.Sound.{IsSound};
-ghost use Rattle.jp_io.specs.Files.{NoneFalls};
-ghost use Rattle.jp_query.specs.Tables.{AllLoaded, IsLoaded, Belong};
-ghost use Rattle.jp_resolve.specs.Evaluable.{IsBuilt};
+ghost use Rattle.std.specs.Prelude.{◌≡◌, ◌<◌, ℕ, All, IfErr, IfOk, OnOk, length};
+ghost use Rattle.jp_catalog.specs.Sound.{AreOfSize, IsSound};
+ghost use Rattle.jp_io.specs.Files.{NoneFalls, StaysSound};
 ghost use Rattle.jp_query.specs.Parts.{tables_in};
-ghost use Rattle.jp_resolve.specs.Schemas.{schema_of};
+ghost use Rattle.jp_query.specs.Tables.{AllLoaded, Belong, IsLoaded};
+ghost use Rattle.jp_resolution.specs.Schemas.{schema_of};
 ghost use Rattle.joinplan.specs.Answers.{none_loaded, tables_read, with_table};
 ghost use Rattle.joinplan.specs.Faults.{IsExplained, IsTableFile};
-ghost use Rattle.joinplan.specs.Mentions.{KeysKept, is_loaded_at, mentioned};
+ghost use Rattle.joinplan.specs.Loaded.{KeysKept};
 ghost use Rattle.joinplan.specs.Readings.{AgreesTold, fold_in};
 
 use crate::reading::read_table;
@@ -18,12 +14,13 @@ use crate::refusal::Refusal;
 use jp_base::Memory;
 use jp_catalog::Catalog;
 use jp_io::Files;
-use jp_query::{JoinTree, Query};
+use jp_mentions::mentioned_tables;
+use jp_query::Query;
 use jp_table::Tables;
 use sqlite_items::Items;
 use std::alloc::Global;
 
-/// Reads and loads the tables that a query names, in the order in which it first mentions them, each once.
+/// Reads and loads the tables that a query names at every depth, in the order in which its text first mentions them, each once.
 pub fn read_tables<F: Files>(
     alloc: Global,
     files: &mut F,
@@ -31,18 +28,18 @@ pub fn read_tables<F: Files>(
     query: &Query,
 ) -> Result<Tables, Refusal>
     requires sound { IsSound catalog.now }
-    requires built { IsBuilt query.now }
+    requires size { AreOfSize catalog.now }
     requires listed { All (λ place. place < length catalog.now.tables) (tables_in query.now) }
     ensures same { F.contents files.new ≡ F.contents files.old }
     ensures kept { NoneFalls (F.faults files.old) (F.faults files.new) }
+    ensures sound { StaysSound (F.is_sound files.old) (F.is_sound files.new) (F.faults files.old) (F.faults files.new) }
     ensures told { AgreesTold (λ t. t.list) result (F.contents files.old) (λ held. tables_read held catalog.now query.now) }
     ensures explained { IfErr result (IsExplained (IsTableFile catalog.now) (F.faults files.old) (F.faults files.new)) }
     ensures belong { IfOk result (λ t. Belong (schema_of catalog.now) t.list) }
     ensures keys { IfOk result (λ t. KeysKept catalog.now.tables t.list) }
     ensures loaded { IfOk result (λ t. AllLoaded t.list query.now) }
 {
-    let mut places = Vec::new(alloc);
-    push_tables(&query.tree, &mut places)?;
+    let places = mentioned_tables(alloc, query)?;
     let mut tables = no_tables(alloc, catalog)?;
     read_places(alloc, files, catalog, places.as_slice(), &mut tables)?;
     Ok(tables)
@@ -59,40 +56,7 @@ fn no_tables(alloc: Global, catalog: &Catalog) -> Result<Tables, Memory>
     Ok(Tables { list })
 }
 
-/// Puts the tables that a tree mentions at the end, in order.
-#[cycle(mentions)]
-fn push_tables(tree: &JoinTree, places: &mut Vec<u32>) -> Result<(), Memory>
-    ensures { OnOk result (places.new.items ≡ places.old.items ++ mentioned tree.now) }
-{
-    match tree {
-        JoinTree::Base { table, .. } => {
-            places.push(*table)?;
-            Ok(())
-        }
-        JoinTree::Join { left, right, .. } => {
-            push_tables(left.get(), places)?;
-            push_tables(right.get(), places)?;
-            Ok(())
-        }
-        JoinTree::From { members, .. } => {
-            push_all(members.as_slice(), places)?;
-            Ok(())
-        }
-        JoinTree::Sub { .. } => Ok(()),
-    }
-}
-
-#[cycle(mentions)]
-fn push_all(trees: &[JoinTree], places: &mut Vec<u32>) -> Result<(), Memory>
-    ensures { OnOk result (places.new.items ≡ places.old.items ++ flat_map mentioned trees.now) }
-{
-    for tree in trees {
-        push_tables(tree, places)?;
-    }
-    Ok(())
-}
-
-/// Reads and loads the tables of these places of the catalogue, but those that are loaded.
+/// Reads and loads the tables of these places of the catalogue.
 fn read_places<F: Files>(
     alloc: Global,
     files: &mut F,
@@ -101,11 +65,13 @@ fn read_places<F: Files>(
     tables: &mut Tables,
 ) -> Result<(), Refusal>
     requires sound { IsSound catalog.now }
+    requires size { AreOfSize catalog.now }
     requires belong { Belong (schema_of catalog.now) tables.old.list }
     requires keys { KeysKept catalog.now.tables tables.old.list }
     requires listed { All (λ place. place < length catalog.now.tables) places.now }
     ensures same { F.contents files.new ≡ F.contents files.old }
     ensures kept { NoneFalls (F.faults files.old) (F.faults files.new) }
+    ensures sound { StaysSound (F.is_sound files.old) (F.is_sound files.new) (F.faults files.old) (F.faults files.new) }
     ensures told { AgreesTold (λ _. tables.new.list) result (F.contents files.old) (λ held. fold_in (with_table held catalog.now) tables.old.list places.now) }
     ensures explained { IfErr result (IsExplained (IsTableFile catalog.now) (F.faults files.old) (F.faults files.new)) }
     ensures belong { OnOk result (Belong (schema_of catalog.now) tables.new.list) }
@@ -118,7 +84,7 @@ fn read_places<F: Files>(
     Ok(())
 }
 
-/// Reads and loads the table of a place, if it isn't loaded yet.
+/// Reads and loads the table of a place.
 fn read_place<F: Files>(
     alloc: Global,
     files: &mut F,
@@ -127,11 +93,13 @@ fn read_place<F: Files>(
     tables: &mut Tables,
 ) -> Result<(), Refusal>
     requires sound { IsSound catalog.now }
+    requires size { AreOfSize catalog.now }
     requires belong { Belong (schema_of catalog.now) tables.old.list }
     requires keys { KeysKept catalog.now.tables tables.old.list }
     requires listed { place < length catalog.now.tables }
     ensures same { F.contents files.new ≡ F.contents files.old }
     ensures kept { NoneFalls (F.faults files.old) (F.faults files.new) }
+    ensures sound { StaysSound (F.is_sound files.old) (F.is_sound files.new) (F.faults files.old) (F.faults files.new) }
     ensures told { AgreesTold (λ _. tables.new.list) result (F.contents files.old) (λ held. with_table held catalog.now tables.old.list place) }
     ensures explained { IfErr result (IsExplained (IsTableFile catalog.now) (F.faults files.old) (F.faults files.new)) }
     ensures belong { OnOk result (Belong (schema_of catalog.now) tables.new.list) }
@@ -140,22 +108,10 @@ fn read_place<F: Files>(
     ensures others { OnOk result ((other : ℕ) → IsLoaded tables.old.list other → IsLoaded tables.new.list other) }
 {
     let place = place as usize;
-    if is_loaded(tables, place) {
-        return Ok(());
-    }
     let Some((name, def)) = catalog.tables.get_index(place) else {
         unreachable!()
     };
     let table = read_table(alloc, files, name.as_str(), def)?;
     tables.list.set(place, Some(table));
     Ok(())
-}
-
-fn is_loaded(tables: &Tables, place: usize) -> bool
-    ensures { result ≡ is_loaded_at (slice_get tables.now.list place) }
-{
-    match tables.list.get(place) {
-        Some(Some(_)) => true,
-        _ => false,
-    }
 }

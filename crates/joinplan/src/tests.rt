@@ -1,4 +1,7 @@
-ghost use Rattle.std.specs.Prelude.{◌≤◌};
+ghost use Rattle.std.specs.Prelude.{◌≡◌, ◌≤◌, ◌<◌, ◌⊎◌, ◌++◌, ◌-◌, ◌^◌, ℕ, List, [], IfOk, Ok, length, map, string_bytes, true};
+ghost use Rattle.jp_io.specs.MemFiles.{fault_count, is_calm, told_files};
+ghost use Rattle.jp_io.specs.MemSink.{failing_calls, room_left, taken_bytes};
+ghost use Rattle.joinplan.specs.Answers.{answer_of};
 
 use crate::joinplan;
 use jp_base::{Memory, Txt};
@@ -36,6 +39,18 @@ columns = [{name = \"id\", type = \"number\"}, {name = \"name\", type = \"text\"
 const UNSTATED: &str = "version = 1
 [tables.a]
 file = \"a.csv\"
+columns = [{name = \"id\", type = \"number\"}, {name = \"x\", type = \"number\"}]
+";
+
+/// Tables that don't stand in the order of their names.
+const TURNED: &str = "version = 1
+[tables.d]
+file = \"d.csv\"
+rows = 10
+columns = [{name = \"v\", type = \"number\"}]
+[tables.a]
+file = \"a.csv\"
+rows = 100
 columns = [{name = \"id\", type = \"number\"}, {name = \"x\", type = \"number\"}]
 ";
 
@@ -154,7 +169,7 @@ const ROWS: &[Row] = &[
         text: "",
         status: 4,
         out: "",
-        err: "statement: not built\n",
+        err: "statement: unknown table at byte 36\n",
     },
     Row {
         name: "name_that_a_later_entry_would_repeat",
@@ -172,7 +187,7 @@ const ROWS: &[Row] = &[
         text: "",
         status: 4,
         out: "",
-        err: "statement: not built\n",
+        err: "statement: ambiguous column at byte 7\n",
     },
     Row {
         name: "two_entries_of_one_name",
@@ -181,7 +196,7 @@ const ROWS: &[Row] = &[
         text: "",
         status: 4,
         out: "",
-        err: "statement: not built\n",
+        err: "statement: alias repeated at byte 24\n",
     },
     Row {
         name: "one_table_under_two_names",
@@ -215,9 +230,9 @@ const ROWS: &[Row] = &[
         statement: "SELECT a.v FROM d a LEFT JOIN d b ON a.v = 0 LEFT JOIN d c ON a.v = 0 LEFT JOIN d e ON a.v = 0 LEFT JOIN d f ON a.v = 0 LEFT JOIN d g ON a.v = 0 LEFT JOIN d h ON a.v = 0 LEFT JOIN d i ON a.v = 0 LEFT JOIN d j ON a.v = 0 LEFT JOIN d k ON a.v = 0 LEFT JOIN d l ON a.v = 0 LEFT JOIN d m ON a.v = 0 LEFT JOIN d n ON a.v = 0",
         file: "",
         text: "",
-        status: 4,
+        status: 5,
         out: "",
-        err: "statement: not built\n",
+        err: "limit: 13 table references, at most 12\n",
     },
     Row {
         name: "unknown_column",
@@ -226,7 +241,7 @@ const ROWS: &[Row] = &[
         text: "",
         status: 4,
         out: "",
-        err: "statement: not built\n",
+        err: "statement: unknown column at byte 7\n",
     },
     Row {
         name: "unknown_table",
@@ -235,16 +250,16 @@ const ROWS: &[Row] = &[
         text: "",
         status: 4,
         out: "",
-        err: "statement: not built\n",
+        err: "statement: unknown table at byte 15\n",
     },
     Row {
         name: "parentheses",
         statement: "SELECT id FROM a WHERE (x = 1)",
         file: "",
         text: "",
-        status: 4,
-        out: "",
-        err: "statement: not built\n",
+        status: 0,
+        out: "id\n",
+        err: "",
     },
     Row {
         name: "number_of_a_table_with_texts",
@@ -260,18 +275,54 @@ const ROWS: &[Row] = &[
         statement: "SELECT name FROM t",
         file: "",
         text: "",
-        status: 4,
-        out: "",
-        err: "statement: not built\n",
+        status: 0,
+        out: "name\nAda\n\\N\n",
+        err: "",
     },
     Row {
         name: "test_on_a_text_column",
         statement: "SELECT id FROM t WHERE name IS NULL",
         file: "",
         text: "",
+        status: 0,
+        out: "id\n2\n",
+        err: "",
+    },
+    Row {
+        name: "sublink_and_order",
+        statement: "SELECT id FROM a WHERE EXISTS (SELECT 1 FROM b WHERE b.aid = a.id) ORDER BY id DESC",
+        file: "",
+        text: "",
+        status: 0,
+        out: "id\n2\n1\n",
+        err: "",
+    },
+    Row {
+        name: "distinct_rows_of_a_sub_select",
+        statement: "SELECT DISTINCT s.v FROM (SELECT v FROM d) s ORDER BY 1",
+        file: "",
+        text: "",
+        status: 0,
+        out: "v\n1\n\\N\n",
+        err: "",
+    },
+    Row {
+        name: "byte_that_no_token_begins_with",
+        statement: "SELECT id FROM a WHERE x # 1",
+        file: "",
+        text: "",
         status: 4,
         out: "",
-        err: "statement: not built\n",
+        err: "statement: bad byte at byte 25\n",
+    },
+    Row {
+        name: "no_statement",
+        statement: "SELECT id FROM a WHERE",
+        file: "",
+        text: "",
+        status: 4,
+        out: "",
+        err: "statement: syntax at byte 22\n",
     },
     Row {
         name: "empty_table_file",
@@ -367,6 +418,15 @@ const COUNTS: &[Row] = &[
         err: "",
     },
     Row {
+        name: "tables_in_another_order",
+        statement: "",
+        file: "K",
+        text: TURNED,
+        status: 0,
+        out: "a: 3 rows\nd: 4 rows\n",
+        err: "",
+    },
+    Row {
         name: "unique_key_repeated",
         statement: "",
         file: "c.csv",
@@ -385,6 +445,24 @@ const COUNTS: &[Row] = &[
         err: "catalogue: bad version\n",
     },
 ];
+
+/// A caller's use of completeness: over files and a sink in memory of which no call is to fail, an answer for which the sink has
+/// room is written, and the status is 0, unless memory is refused.
+fn served(
+    alloc: Global,
+    words: &[String],
+    files: &mut MemFiles,
+    out: &mut MemSink,
+    err: &mut MemSink,
+) -> u8
+    requires calm { is_calm files.old ≡ true }
+    requires low { (name : List ℕ) → fault_count files.old name < 2 ^ 64 - 1 }
+    requires calm_out { failing_calls out.old ≡ [] }
+    ensures { (bytes : List ℕ) → (answer_of (map string_bytes words.now) (told_files files.old)).answer ≡ Ok bytes → length bytes ≤ room_left out.old →
+        ((result ≡ 0) × (taken_bytes out.new ≡ taken_bytes out.old ++ bytes)) ⊎ (result ≡ 8) }
+{
+    joinplan(alloc, words, files, out, err)
+}
 
 fn push_file(
     alloc: Global,
@@ -428,6 +506,7 @@ fn check_words(alloc: Global) -> Result<Vec<String>, AllocError> {
 
 fn sink(alloc: Global, piece: usize) -> Result<MemSink, Memory>
     requires { 1 ≤ piece }
+    ensures { IfOk result (λ s. failing_calls s ≡ []) }
 {
     MemSink::new(alloc, piece, 4096, Vec::new(alloc))
 }
@@ -541,5 +620,60 @@ fn second_write_fails(rt: HostRuntime) -> Result<(), Fail> {
     assert_eq!(rt; status, 7);
     assert_eq!(rt; out.bytes(), b"id\n2".as_slice());
     assert_eq!(rt; err.bytes(), b"write fault\n".as_slice());
+    Ok(())
+}
+
+/// A statement and spaces behind it, of so many bytes.
+fn padded(alloc: Global, text: &str, length: usize) -> Result<Vec<u8>, Fail> {
+    let mut bytes = Vec::from_slice(alloc, text.as_bytes())?;
+    bytes.resize(length, b' ')?;
+    Ok(bytes)
+}
+
+/// The answer to the first row's statement with another file in front.
+fn answer_with(alloc: Global, name: &str, bytes: Vec<u8>) -> Result<Answer, Fail> {
+    let mut files = Vec::new(alloc);
+    files.push((Txt::new(alloc, name)?, bytes))?;
+    for (name, text) in FILES {
+        push_file(alloc, &mut files, name, text)?;
+    }
+    let mut files = MemFiles::new(files, Vec::new(alloc));
+    let words = run_words(alloc, "q.sql")?;
+    let mut out = sink(alloc, 4096)?;
+    let mut err = sink(alloc, 4096)?;
+    let status = served(alloc, words.as_slice(), &mut files, &mut out, &mut err);
+    Ok(Answer { status, out, err })
+}
+
+#[test]
+fn statement_of_the_greatest_length(rt: HostRuntime) -> Result<(), Fail> {
+    let bytes = padded(rt.alloc(), "SELECT id FROM a WHERE x > 10", 65536)?;
+    let answer = answer_with(rt.alloc(), "q.sql", bytes)?;
+    assert_eq!(rt; answer.status, 0);
+    assert_eq!(rt; answer.out.bytes(), b"id\n2\n".as_slice());
+    Ok(())
+}
+
+#[test]
+fn statement_of_a_byte_too_many(rt: HostRuntime) -> Result<(), Fail> {
+    let bytes = padded(rt.alloc(), "SELECT id FROM a WHERE x > 10", 65537)?;
+    let answer = answer_with(rt.alloc(), "q.sql", bytes)?;
+    assert_eq!(rt; answer.status, 5);
+    assert_eq!(rt;
+        answer.err.bytes(),
+        b"limit: statement over 65536 bytes\n".as_slice()
+    );
+    Ok(())
+}
+
+#[test]
+fn file_of_a_byte_too_many(rt: HostRuntime) -> Result<(), Fail> {
+    let bytes = padded(rt.alloc(), "id,x\n", 67108865)?;
+    let answer = answer_with(rt.alloc(), "a.csv", bytes)?;
+    assert_eq!(rt; answer.status, 5);
+    assert_eq!(rt;
+        answer.err.bytes(),
+        b"limit: file a.csv over 67108864 bytes\n".as_slice()
+    );
     Ok(())
 }

@@ -1,12 +1,14 @@
-ghost use Rattle.std.specs.Prelude.{◌≡◌, ◌≢◌, ◌≤◌, ◌⊎◌, ◌↔◌, ℕ, IfSome, IfOk, None, map, string_bytes};
-ghost use Rattle.jp_io.specs.Sinks.{Rose, TookMore};
-ghost use Rattle.joinplan.specs.Headline.{PrintsAnswer};
-ghost use Rattle.joinplan.specs.Outcomes.{ComesExactly, FaultIn, IsReported, NoFault, WroteAll, WrotePart, answer_told};
+ghost use Rattle.std.specs.Prelude.{◌≡◌, ◌≢◌, ◌≤◌, ◌↔◌, IfSome, None, map, string_bytes};
+ghost use Rattle.jp_io.specs.Files.{NoneFalls, StaysSound};
+ghost use Rattle.jp_io.specs.Sinks.{Rose};
+ghost use Rattle.joinplan.specs.Headline.{PrintsAnswer, PrintsInOrder};
+ghost use Rattle.joinplan.specs.Outcomes.{ComesExactly, FaultIn, IsComplete, IsReported, IsSurelyServed, RoomServes, WroteAll, WrotePart, answer_told};
 ghost use Rattle.joinplan.specs.Words.{command_of};
 
 use crate::answer::answer;
 use crate::refusal::Refusal;
 use jp_io::{Files, Sink, SinkError, write_all};
+use jp_lex::each_source_is_cut_as_answered;
 use std::alloc::Global;
 
 /// Runs the command that the words after the program's name give, and answers the exit status. The output goes
@@ -27,12 +29,12 @@ pub fn joinplan<F: Files, O: Sink, E: Sink>(
     ensures limit { ComesExactly 5 (answer_told (map string_bytes words.now) (F.contents files.old)) result (F.faults files.old) (F.faults files.new) }
     ensures read_fault { result ≡ 6 → FaultIn (answer_told (map string_bytes words.now) (F.contents files.old)) (command_of (map string_bytes words.now)) (F.faults files.old) (F.faults files.new) }
     ensures write_fault { result ≡ 7 → Rose (O.faults out.old) (O.faults out.new) }
-    ensures complete { IfSome (answer_told (map string_bytes words.now) (F.contents files.old)) (λ answer. IfOk answer.answer (λ bytes.
-        NoFault answer.names (F.faults files.old) (F.faults files.new) → ¬ Rose (O.faults out.old) (O.faults out.new)
-        → ((result ≡ 0) × TookMore (O.taken out.old) bytes (O.taken out.new)) ⊎ (result ≡ 8))) }
+    ensures complete { IfSome (answer_told (map string_bytes words.now) (F.contents files.old)) (λ answer. IsComplete answer result (F.faults files.old) (F.faults files.new) (O.faults out.old) (O.faults out.new) (O.taken out.old) (O.taken out.new)) }
+    ensures surely { IfSome (answer_told (map string_bytes words.now) (F.contents files.old)) (λ answer. IsSurelyServed (F.is_sound files.old) (F.faults files.old) (O.room out.old) answer result (O.taken out.old) (O.taken out.new)) }
 
     // What the sinks took: of a status 0, where the contents of the files are told, the statement's meaning.
     ensures headline { result ≡ 0 → PrintsAnswer (F.contents files.old) (map string_bytes words.now) (O.taken out.old) (O.taken out.new) }
+    ensures order { result ≡ 0 → PrintsInOrder (F.contents files.old) (map string_bytes words.now) (O.taken out.old) (O.taken out.new) }
     ensures printed { result ≡ 0 → WroteAll (answer_told (map string_bytes words.now) (F.contents files.old)) (O.taken out.old) (O.taken out.new) }
     ensures prefix { result ≡ 7 → WrotePart (answer_told (map string_bytes words.now) (F.contents files.old)) (O.taken out.old) (O.taken out.new) }
     ensures untouched { result ≢ 0 → result ≢ 7 → out.new ≡ out.old }
@@ -40,9 +42,15 @@ pub fn joinplan<F: Files, O: Sink, E: Sink>(
     ensures line { result ≢ 0 → IsReported (answer_told (map string_bytes words.now) (F.contents files.old)) result (E.taken err.old) (E.taken err.new)
         (record { sink_before = E.faults err.old; sink_now = E.faults err.new; files_before = F.faults files.old; files_now = F.faults files.new }) }
 
-    // What the files hold stays.
+    // What the files hold stays, no count of faults falls, and what surely works counts none.
     ensures same { F.contents files.new ≡ F.contents files.old }
+    ensures kept { NoneFalls (F.faults files.old) (F.faults files.new) }
+    ensures sound { StaysSound (F.is_sound files.old) (F.is_sound files.new) (F.faults files.old) (F.faults files.new) }
+    ensures out_kept { O.faults out.old ≤ O.faults out.new }
+    ensures room { IfSome (answer_told (map string_bytes words.now) (F.contents files.old)) (λ answer. RoomServes (O.room out.old) answer (O.faults out.old) (O.faults out.new)) }
+    ensures err_kept { E.faults err.old ≤ E.faults err.new }
 {
+    each_source_is_cut_as_answered();
     match answer(alloc, words, files) {
         Ok(bytes) => match write_all(out, bytes.as_slice()) {
             Ok(()) => 0,

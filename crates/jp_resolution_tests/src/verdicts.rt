@@ -12,7 +12,7 @@ use jp_lex::tokens;
 use jp_parse::parse;
 use jp_query::{Output, Query};
 use jp_resolution::ResolveError;
-use jp_resolve_whole::resolve;
+use jp_resolve::resolve;
 use std::alloc::{AllocError, Global};
 use std::process::Abort;
 use std::test::Fail;

@@ -1,6 +1,2 @@
-pub mod Answers
-pub mod Evaluable
-pub mod Names
-pub mod Resolving
-pub mod Schemas
-pub mod Views
+pub mod Orders
+pub mod Walk

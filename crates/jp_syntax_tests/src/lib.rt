@@ -1,10 +1,8 @@
-//! Tests of the tokens of a source, of the grammar and of the first form of statement, over public calls alone.
+//! Tests of the tokens of a source and of the grammar, over public calls alone.
 #![tactic(auto)]
 
 #[cfg(test)]
 mod cases;
-#[cfg(test)]
-mod first_form;
 #[cfg(test)]
 mod nesting;
 #[cfg(test)]

@@ -3,6 +3,7 @@ use Rattle.std.proofs.lemmas.Result.{err_from_is_err_and}
 use Rattle.joinplan.specs.Answers.{counts_in, with_count}
 use Rattle.joinplan.specs.Readings.{AgreesTold}
 use Rattle.joinplan.proofs.ReadingLemmas.{given_until, one_more_given, told_on, told_shown}
+use Rattle.joinplan.proofs.SureLemmas.{sound_then}
 use Rattle.joinplan.proofs.TableLemmas.{listed_at}
 use Rattle.joinplan.proofs.checking.count_rows.Goals as goal
 
@@ -30,6 +31,7 @@ loop-i-preserved g c =
     record {
       same = ensured.same ∙ before.same;
       kept = λ name. omega (arith, before.kept name, ensured.kept name);
+      sound = sound_then _ _ _ _ _ _ before.sound ensured.sound;
       told = one_more_given contents with_count [] tables i table c.loop-i.text.items c.count_place.new.text.items here before.told
           (told_shown (λ (u : Unit {0}). c.count_place.new.text.items) contents (λ held. with_count held c.loop-i.text.items table) tt
           (subst (λ x. AgreesTold {X = Unit {0}} (λ u. c.count_place.new.text.items) (Ok tt) x (λ held. with_count held c.loop-i.text.items table)) before.same (rw (here) at ensured.told)));

@@ -4,8 +4,8 @@ use Rattle.joinplan.specs.Lines.{TookLine, bytes_of}
 use Rattle.joinplan.proofs.LineLemmas.{bytes_around, bytes_more, stopped, took-then}
 use Rattle.joinplan.proofs.refusal.write_pieces.Goals as goal
 
-pub returns-in_err-write_all : goal.returns-in_err-write_all
-returns-in_err-write_all g c =
+pub returns-in_err-write_all-clause-line : goal.returns-in_err-write_all-clause-line
+returns-in_err-write_all-clause-line g c =
     let pieces = c.args.pieces.now in
     let i = c.loop-piece.piece-index in
     let piece = c.as_bytes.result.now in

@@ -1,9 +1,9 @@
 use Rattle.std.proofs.Common.{◌<◌, arith, length, subst, sym}
 use Rattle.std.proofs.lemmas.List.{length-map}
 use Rattle.jp_query.specs.Tables.{IsLoaded, Belong}
-use Rattle.jp_resolve.specs.Schemas.{schema_of, table_columns}
+use Rattle.jp_resolution.specs.Schemas.{schema_of, table_columns}
 use Rattle.joinplan.specs.Answers.{NamedTable}
-use Rattle.joinplan.specs.Mentions.{KeysKept}
+use Rattle.joinplan.specs.Loaded.{KeysKept}
 use Rattle.joinplan.proofs.TableLemmas.{belong_length, columns_listed, rows_fit, set_belongs, set_kept, set_loaded, still_loaded}
 use Rattle.joinplan.proofs.tables.read_place.Goals as goal
 

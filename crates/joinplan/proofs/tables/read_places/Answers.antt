@@ -6,6 +6,7 @@ use Rattle.jp_query.specs.Tables.{IsLoaded}
 use Rattle.joinplan.specs.Answers.{with_table}
 use Rattle.joinplan.specs.Readings.{AgreesTold, fold_in}
 use Rattle.joinplan.proofs.ReadingLemmas.{given_until, one_more_given, told_on, told_shown}
+use Rattle.joinplan.proofs.SureLemmas.{sound_then}
 use Rattle.joinplan.proofs.TableLemmas.{all_more, all_taken}
 use Rattle.joinplan.proofs.tables.read_places.Goals as goal
 
@@ -37,6 +38,7 @@ loop-place-preserved g c =
     record {
       same = ensured.same ∙ before.same;
       kept = λ name. omega (arith, before.kept name, ensured.kept name);
+      sound = sound_then _ _ _ _ _ _ before.sound ensured.sound;
       told = one_more_given contents (λ held. with_table held catalog) c.args.tables.now.list places i place c.loop-place.tables.list c.read_place.new.tables.list here before.told
           (told_shown (λ (u : Unit {0}). c.read_place.new.tables.list) contents (λ held. with_table held catalog c.loop-place.tables.list place) tt
           (subst (λ x. AgreesTold {X = Unit {0}} (λ u. c.read_place.new.tables.list) (Ok tt) x (λ held. with_table held catalog c.loop-place.tables.list place)) before.same ensured.told));

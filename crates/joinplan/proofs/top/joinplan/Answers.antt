@@ -4,8 +4,8 @@ use Rattle.jp_io.specs.Sinks.{TookMore}
 use Rattle.joinplan.specs.declared.refusal.Refusal.TheVariants as refusal
 use Rattle.joinplan.specs.Outcomes.{IsOutput, answer_told}
 use Rattle.joinplan.specs.Words.{command_of}
-use Rattle.joinplan.proofs.HeadlineLemmas.{prints_answer}
-use Rattle.joinplan.proofs.OutcomeLemmas.{counted, no_write, output_told, refusal_told, write_cause, wrote_part}
+use Rattle.joinplan.proofs.HeadlineLemmas.{prints_answer, prints_in_order}
+use Rattle.joinplan.proofs.OutcomeLemmas.{counted, no_write, output_told, refusal_told, said, write_cause, wrote_part}
 use Rattle.joinplan.proofs.top.joinplan.Goals as goal
 
 pub returns-in-Ok-clause-prefix : goal.returns-in-Ok-clause-prefix
@@ -23,6 +23,7 @@ returns-in-Ok-clause-line g c = λ _.
       cause = refusal.WriteFault;
       status_is = sym c.report.ensures.status;
       first = write_cause (answer_told words contents) c.in-Ok.bytes.items (output_told words contents c.in-Ok.bytes c.in-Ok.ensures.told);
+      said = tt;
       counted = tt;
       line = c.report.ensures.line;
     }
@@ -31,7 +32,13 @@ pub returns-in-Ok-write_all-clause-headline : goal.returns-in-Ok-write_all-claus
 returns-in-Ok-write_all-clause-headline g c = λ _.
     let words = map string_bytes c.args.words.now in
     let contents = g.F.Files.contents c.args.files.now in
-    prints_answer words contents (g.O.Sink.taken c.args.out.now) (g.O.Sink.taken c.write_all.new.sink) c.in-Ok.bytes c.in-Ok.ensures.told (subst (λ bytes. TookMore (g.O.Sink.taken c.args.out.now) bytes (g.O.Sink.taken c.write_all.new.sink)) c.as_slice.ensures.value c.in-Ok-write_all.ensures.all)
+    prints_answer c.each_source_is_cut_as_answered.ensures.answer words contents (g.O.Sink.taken c.args.out.now) (g.O.Sink.taken c.write_all.new.sink) c.in-Ok.bytes c.in-Ok.ensures.told (subst (λ bytes. TookMore (g.O.Sink.taken c.args.out.now) bytes (g.O.Sink.taken c.write_all.new.sink)) c.as_slice.ensures.value c.in-Ok-write_all.ensures.all)
+
+pub returns-in-Ok-write_all-clause-order : goal.returns-in-Ok-write_all-clause-order
+returns-in-Ok-write_all-clause-order g c = λ _.
+    let words = map string_bytes c.args.words.now in
+    let contents = g.F.Files.contents c.args.files.now in
+    prints_in_order c.each_source_is_cut_as_answered.ensures.answer words contents (g.O.Sink.taken c.args.out.now) (g.O.Sink.taken c.write_all.new.sink) c.in-Ok.bytes c.in-Ok.ensures.told (subst (λ bytes. TookMore (g.O.Sink.taken c.args.out.now) bytes (g.O.Sink.taken c.write_all.new.sink)) c.as_slice.ensures.value c.in-Ok-write_all.ensures.all)
 
 pub returns-clause-line : goal.returns-clause-line
 returns-clause-line g c = λ _.
@@ -43,6 +50,7 @@ returns-clause-line g c = λ _.
       cause = r;
       status_is = sym c.report-in-Err.ensures.status;
       first = refusal_told words contents r e.told (no_write (command_of words) _ _ r e.explained e.usage);
+      said = said (command_of words) _ _ r e.explained e.usage;
       counted = counted (command_of words) _ _ r e.explained e.usage;
       line = c.report-in-Err.ensures.line;
     }

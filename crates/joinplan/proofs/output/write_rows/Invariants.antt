@@ -1,8 +1,0 @@
-use Rattle.std.proofs.Common.{ℕ, List, ◌++◌, take}
-use Rattle.std.specs.List.{flat_map}
-use Rattle.joinplan.specs.Output.{record_text}
-use Rattle.joinplan.specs.Writers.{HasWritten}
-use Rattle.joinplan.proofs.output.write_rows.Given as goal
-
-abbrev pub invariant-loop-row : goal.invariant-loop-row
-invariant-loop-row l = (text : List ℕ) → HasWritten l.fn.writer text → HasWritten l.writer (text ++ flat_map record_text (take l.row-index l.rows))

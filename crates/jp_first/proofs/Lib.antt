@@ -1,5 +1,0 @@
-pub mod Answers
-pub mod CutLemmas
-pub mod Fronts
-pub mod Prefixes
-pub mod TokenLemmas

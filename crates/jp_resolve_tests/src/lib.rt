@@ -1,5 +1,0 @@
-//! Tests of resolution, over public calls alone.
-#![tactic(auto)]
-
-#[cfg(test)]
-mod queries;

@@ -1,6 +1,0 @@
-pub mod CountLaws
-pub mod NameLaws
-pub mod OrderLaws
-pub mod Rules
-pub mod TopLaws
-pub mod WalkLaws
