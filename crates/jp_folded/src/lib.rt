@@ -4,5 +4,7 @@
 #![tactic(auto)]
 
 mod laws;
+mod table;
 
 pub use laws::{folding_keeps_fresh_queries, folding_keeps_typed_queries};
+pub use table::{table_of_comparisons, table_of_connectives, table_of_operators, table_of_tests};
