@@ -1,0 +1,9 @@
+//! Laws of the join problem of a query block: the least sets of items that its joins and clauses need meet the conditions
+//! on which every legal order of the joins rests.
+//!
+//! Each law is the contract of a function that does nothing.
+#![tactic(auto)]
+
+mod conditions;
+
+pub use conditions::a_block_meets_the_conditions;
