@@ -80,7 +80,7 @@ module _ (query : Query) (block : IsBlock query) where
   sheltered : Sheltered (own_leaves (out-Query query).tree) (exprs_in (shape_of (out-Query query).tree)) (tree_leaf_set (out-Query query).tree)
   sheltered = told (out-Query query).tree leaf_parts.tree
 
-  rooted : HasItems (shape_of (out-Query query).tree)
+  pub rooted : HasItems (shape_of (out-Query query).tree)
   rooted =
       let parts = and_parts _ _ (sym (laws.at-Query Bool Bool Bool Bool Bool expr_rooted tree_rooted order_rooted output_rooted query_rooted query) ∙ block.typed.rooted) in
       has_items (out-Query query).tree (and_parts _ _ parts.1).0
@@ -133,7 +133,7 @@ module _ (query : Query) (block : IsBlock query) where
 
   -- ---- the outline
 
-  same_length : length (items_in (shape_of (out-Query query).tree)) ≡ length (outline_of query).rels
+  pub same_length : length (items_in (shape_of (out-Query query).tree)) ≡ length (outline_of query).rels
   same_length = sym (length-map (items_in (shape_of (out-Query query).tree)) known_rels)
 
   standing : Standing (span 0 (length (outline_of query).rels)) 0 (0 + count_joins (shape_of (out-Query query).tree)) 0 (map sides_of (outline_of query).joins)

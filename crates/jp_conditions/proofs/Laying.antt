@@ -155,10 +155,10 @@ module _ (rels : List ℕ) where
     pub uses_of_expr : c.uses ≡ used rels c.expr
     pub lies : ((c.region ≡ at.region) × Within c.uses (items_at at shape)) ⊎ ((w : Written) × In w (joins_at rels shape at) × (w.no ≡ c.region) × Within c.uses w.syn_right)
 
-  left_items : (left right : Shape) (at : Place) → Within (items_at at left) (span at.items (length (items_in left ++ items_in right)))
+  pub left_items : (left right : Shape) (at : Place) → Within (items_at at left) (span at.items (length (items_in left ++ items_in right)))
   left_items left right at = subst (Within (items_at at left)) (items_beside at.items left right) (in_left (items_at at left) (items_at (behind left at) right))
 
-  right_items : (left right : Shape) (at : Place) → Within (items_at (behind left at) right) (span at.items (length (items_in left ++ items_in right)))
+  pub right_items : (left right : Shape) (at : Place) → Within (items_at (behind left at) right) (span at.items (length (items_in left ++ items_in right)))
   right_items left right at = subst (Within (items_at (behind left at) right)) (items_beside at.items left right) (in_right (items_at at left) (items_at (behind left at) right))
 
   placed_here : (region set : ℕ) (es : List Expr) (c : Placed) → ((e : Expr) → In e es → Within (used rels e) set) → In c (map (placed_in rels region) es) → (c.region ≡ region) × Within c.uses set × (c.uses ≡ used rels c.expr)

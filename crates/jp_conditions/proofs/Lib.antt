@@ -20,6 +20,9 @@ pub mod Sheltered
 pub mod Sighting
 pub mod Sources
 pub mod Spans
+pub mod SpineLaws
+pub mod Stages
 pub mod Standing
+pub mod Steps
 pub mod Untouched
 pub mod Visible

@@ -31,7 +31,7 @@ use Rattle.jp_conditions.proofs.SetForms as forms
 use Rattle.jp_conditions.proofs.Sources.{special_no, special_sides}
 use Rattle.jp_conditions.proofs.Standing.{Sides}
 
-meet_or_apart : (a b : ℕ) → Meets a b ⊎ Apart a b
+pub meet_or_apart : (a b : ℕ) → Meets a b ⊎ Apart a b
 meet_or_apart a b = elim (cases_Bool (meets a b)) [ inl e ↦ inl ((meets_says a b).0 e) | inr e ↦ inr ((apart_says a b).0 (not_from_false (meets a b) e)) ]
 
 -- the join of this number, where there is one

@@ -1,9 +1,11 @@
 //! Laws of the join problem of a query block: the least sets of items that its joins and clauses need meet the conditions
-//! on which every legal order of the joins rests.
+//! on which every legal order of the joins rests, and the order in which the block is written is a legal one.
 //!
 //! Each law is the contract of a function that does nothing.
 #![tactic(auto)]
 
 mod conditions;
+mod spine;
 
 pub use conditions::a_block_meets_the_conditions;
+pub use spine::the_spine_is_a_legal_tree;

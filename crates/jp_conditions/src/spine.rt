@@ -1,0 +1,11 @@
+ghost use Rattle.std.specs.Prelude.{◌≡◌, List, Some};
+ghost use Rattle.jp_query.specs.declared.Query.{Query};
+ghost use Rattle.jp_problem.specs.declared.types.Item.{Item};
+ghost use Rattle.jp_problem.specs.Made.{IsBlock};
+ghost use Rattle.jp_problem.specs.Problems.{AreItemsOf, problem_of};
+ghost use Rattle.jp_problem.specs.Trees.{Tree, IsPlan, spine};
+
+/// A law: every block has a spine, and it is a legal tree of all the block's items.
+pub fn the_spine_is_a_legal_tree()
+    ensures { (query : Query) (items : List Item) → IsBlock query → AreItemsOf query items → (tree : Tree) × (spine query ≡ Some tree) × IsPlan (problem_of items query) tree }
+{}
