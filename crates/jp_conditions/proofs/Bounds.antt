@@ -57,12 +57,6 @@ chosen_side true set side w = w
 chosen_side false set side w = λ i h. h
 
 module _ (block : Outline) (set : ℕ) (laid : Laid block set) where
-  abbrev pub xs : List Sides
-  xs = map sides_of block.joins
-
-  abbrev pub joins : List Special
-  joins = specials_in block
-
   pub sides_numbered : Numbered sides_no 0 (map sides_of block.joins)
   sides_numbered = numbered_map sides_of written_no sides_no (λ w. refl) 0 block.joins laid.numbered
 
@@ -104,9 +98,6 @@ module _ (block : Outline) (set : ℕ) (laid : Laid block set) where
       (each_rule (stands_in side) taken_by_right ts (IsClosedUnder side) (λ t h e m. both_inside t side (bounded t h) ((is_within_says (written_items t) side).0 e)))
 
   module _ (before : List Special) (w : Written) (here : In w block.joins) (known : (t : Special) → In t before → In t (specials_in block) × IsBounded t) where
-    abbrev made_sides : Sides
-    made_sides = sides_of w
-
     placed : In (sides_of w) (map sides_of block.joins)
     placed = in_map sides_of w block.joins here
 

@@ -59,38 +59,38 @@ module _ (schema : Schema) where
   all_of s (t ∷ ts) = entries_of schema t s ++ all_of s ts
 
   module _ (tests : Tests) where
-    abbrev E : Expr → Judged ℕ
-    E = judged_expr schema tests
+    abbrev judged_e : Expr → Judged ℕ
+    judged_e = judged_expr schema tests
 
-    abbrev T : JoinTree → Judged (List Entry)
-    T = judged_tree schema tests
+    abbrev judged_t : JoinTree → Judged (List Entry)
+    judged_t = judged_tree schema tests
 
-    abbrev O : Order → Judged ℕ
-    O = judged_order_by schema tests
+    abbrev judged_o : Order → Judged ℕ
+    judged_o = judged_order_by schema tests
 
-    abbrev U : Output → Judged Column
-    U = judged_output_by schema tests
+    abbrev judged_u : Output → Judged Column
+    judged_u = judged_output_by schema tests
 
-    abbrev Q : Query → Judged (List Column)
-    Q = judged_query schema tests
+    abbrev judged_q : Query → Judged (List Column)
+    judged_q = judged_query schema tests
 
     abbrev pub judged_level : ExprLayer → Expr-F (Judged ℕ) (Judged (List Entry)) (Judged ℕ) (Judged Column) (Judged (List Column))
-    judged_level = map-Expr Expr JoinTree Order Output Query (Judged ℕ) (Judged (List Entry)) (Judged ℕ) (Judged Column) (Judged (List Column)) (judged_expr schema tests) (judged_tree schema tests) (judged_order_by schema tests) (judged_output_by schema tests) (judged_query schema tests)
+    judged_level = map-Expr Expr JoinTree Order Output Query (Judged ℕ) (Judged (List Entry)) (Judged ℕ) (Judged Column) (Judged (List Column)) judged_e judged_t judged_o judged_u judged_q
 
-    all_same : (s : Scope) (ts : List JoinTree) → all_entries (map (judged_tree schema tests) ts) s ≡ all_of s ts
+    all_same : (s : Scope) (ts : List JoinTree) → all_entries (map judged_t ts) s ≡ all_of s ts
     all_same s [] = refl
     all_same s (t ∷ ts) = ap₂ ◌++◌ (ap (λ (e : Scope → List Entry). e s) (entries_judged schema tests t)) (all_same s ts)
 
-    at_level : (s : Scope) (x : ExprLayer) → (judged_expr schema tests (roll-Expr x)).passes s ≡ true → (expr_judged schema tests (judged_level x)).passes s ≡ true
+    at_level : (s : Scope) (x : ExprLayer) → (judged_e (roll-Expr x)).passes s ≡ true → (expr_judged schema tests (judged_level x)).passes s ≡ true
     at_level s x h = subst (λ (j : Judged ℕ). j.passes s ≡ true) (fold-roll-Expr (Judged ℕ) (Judged (List Entry)) (Judged ℕ) (Judged Column) (Judged (List Column)) (expr_judged schema tests) (tree_judged schema tests) (order_judged schema tests) (output_judged schema tests) (query_judged schema tests) x) h
 
-    pub own_columns : (s : Scope) (x : ExprLayer) → (judged_expr schema tests (roll-Expr x)).passes s ≡ true → list_all (tests.column s) (node_column (judged_level x)) ≡ true
+    pub own_columns : (s : Scope) (x : ExprLayer) → (judged_e (roll-Expr x)).passes s ≡ true → list_all (tests.column s) (node_column (judged_level x)) ≡ true
     own_columns s x h =
         let y = judged_level x in
         let rest = list_all (tests.placeholder s) (node_placeholder y) && (list_all (passes_in s) (parts y) && list_all (passes_in s) (option_part (sublink_query y))) in
         and_left (list_all (tests.column s) (node_column y)) rest (and_right (tests.bound (judged_bound y s)) (list_all (tests.column s) (node_column y) && rest) (at_level s x h))
 
-    pub own_places : (s : Scope) (x : ExprLayer) → (judged_expr schema tests (roll-Expr x)).passes s ≡ true → list_all (tests.placeholder s) (node_placeholder (judged_level x)) ≡ true
+    pub own_places : (s : Scope) (x : ExprLayer) → (judged_e (roll-Expr x)).passes s ≡ true → list_all (tests.placeholder s) (node_placeholder (judged_level x)) ≡ true
     own_places s x h =
         let y = judged_level x in
         let inner = list_all (passes_in s) (parts y) && list_all (passes_in s) (option_part (sublink_query y)) in
@@ -98,55 +98,55 @@ module _ (schema : Schema) where
         let places = list_all (tests.placeholder s) (node_placeholder y) in
         and_left places inner (and_right columns (places && inner) (and_right (tests.bound (judged_bound y s)) (columns && (places && inner)) (at_level s x h)))
 
-    pub expr_down : (s : Scope) (x : ExprLayer) → (judged_expr schema tests (roll-Expr x)).passes s ≡ true → Each (λ y. (judged_expr schema tests y).passes s ≡ true) (parts x) × Each (λ y. (judged_query schema tests y).passes s ≡ true) (option_part (sublink_query x))
+    pub expr_down : (s : Scope) (x : ExprLayer) → (judged_e (roll-Expr x)).passes s ≡ true → Each (λ y. (judged_e y).passes s ≡ true) (parts x) × Each (λ y. (judged_q y).passes s ≡ true) (option_part (sublink_query x))
     expr_down s x h =
         let good = expr_passes schema tests s (judged_level x) (at_level s x h) in (
-          each_mapped (λ (j : Judged ℕ). j.passes s ≡ true) (judged_expr schema tests) (parts x) (subst (Each (λ (j : Judged ℕ). j.passes s ≡ true)) (parts_map (judged_expr schema tests) (judged_tree schema tests) (judged_order_by schema tests) (judged_output_by schema tests) (judged_query schema tests) x) good.parts),
-          each_mapped (λ (j : Judged (List Column)). j.passes s ≡ true) (judged_query schema tests) (option_part (sublink_query x)) (subst (Each (λ (j : Judged (List Column)). j.passes s ≡ true)) (sublink_map (judged_expr schema tests) (judged_tree schema tests) (judged_order_by schema tests) (judged_output_by schema tests) (judged_query schema tests) x) good.sublinks),
+          each_mapped (λ (j : Judged ℕ). j.passes s ≡ true) judged_e (parts x) (subst (Each (λ (j : Judged ℕ). j.passes s ≡ true)) (parts_map judged_e judged_t judged_o judged_u judged_q x) good.parts),
+          each_mapped (λ (j : Judged (List Column)). j.passes s ≡ true) judged_q (option_part (sublink_query x)) (subst (Each (λ (j : Judged (List Column)). j.passes s ≡ true)) (sublink_map judged_e judged_t judged_o judged_u judged_q x) good.sublinks),
         )
 
     pub record TreeDown (s : Scope) (x : JoinTreeLayer) : Type 0 where
       pub place : tests.scope (all_of s (trees x) ++ s) ≡ true
-      pub sides : Each (λ y. (judged_tree schema tests y).passes s ≡ true) (trees x)
-      pub conds : Each (λ y. (judged_expr schema tests y).passes (all_of s (trees x) ++ s) ≡ true) (conditions x)
-      pub inner : Each (λ y. (judged_query schema tests y).passes s ≡ true) (option_part (leaf_query x))
+      pub sides : Each (λ y. (judged_t y).passes s ≡ true) (trees x)
+      pub conds : Each (λ y. (judged_e y).passes (all_of s (trees x) ++ s) ≡ true) (conditions x)
+      pub inner : Each (λ y. (judged_q y).passes s ≡ true) (option_part (leaf_query x))
 
-    pub tree_down : (s : Scope) (x : JoinTreeLayer) → (judged_tree schema tests (roll-JoinTree x)).passes s ≡ true → TreeDown s x
+    pub tree_down : (s : Scope) (x : JoinTreeLayer) → (judged_t (roll-JoinTree x)).passes s ≡ true → TreeDown s x
     tree_down s x h =
-        let y = map-JoinTree Expr JoinTree Order Output Query (Judged ℕ) (Judged (List Entry)) (Judged ℕ) (Judged Column) (Judged (List Column)) (judged_expr schema tests) (judged_tree schema tests) (judged_order_by schema tests) (judged_output_by schema tests) (judged_query schema tests) x in
+        let y = map-JoinTree Expr JoinTree Order Output Query (Judged ℕ) (Judged (List Entry)) (Judged ℕ) (Judged Column) (Judged (List Column)) judged_e judged_t judged_o judged_u judged_q x in
         let good = tree_passed schema tests s y (subst (λ (j : Judged (List Entry)). j.passes s ≡ true) (fold-roll-JoinTree (Judged ℕ) (Judged (List Entry)) (Judged ℕ) (Judged Column) (Judged (List Column)) (expr_judged schema tests) (tree_judged schema tests) (order_judged schema tests) (output_judged schema tests) (query_judged schema tests) x) h) in
-        let sides = trees_map (judged_expr schema tests) (judged_tree schema tests) (judged_order_by schema tests) (judged_output_by schema tests) (judged_query schema tests) x in
+        let sides = trees_map judged_e judged_t judged_o judged_u judged_q x in
         let seen = ap (λ list. all_entries list s) sides ∙ all_same s (trees x) in
         record {
           place = subst (λ list. tests.scope (list ++ s) ≡ true) seen good.place;
-          sides = each_mapped (λ (j : Judged (List Entry)). j.passes s ≡ true) (judged_tree schema tests) (trees x) (subst (Each (λ (j : Judged (List Entry)). j.passes s ≡ true)) sides good.inner);
-          conds = each_mapped (λ (j : Judged ℕ). j.passes (all_of s (trees x) ++ s) ≡ true) (judged_expr schema tests) (conditions x)
-              (subst (Each (λ (j : Judged ℕ). j.passes (all_of s (trees x) ++ s) ≡ true)) (conditions_map (judged_expr schema tests) (judged_tree schema tests) (judged_order_by schema tests) (judged_output_by schema tests) (judged_query schema tests) x) (subst (λ list. Each (λ (j : Judged ℕ). j.passes (list ++ s) ≡ true) (conditions y)) seen good.conds));
-          inner = each_mapped (λ (j : Judged (List Column)). j.passes s ≡ true) (judged_query schema tests) (option_part (leaf_query x)) (subst (Each (λ (j : Judged (List Column)). j.passes s ≡ true)) (leaf_map (judged_expr schema tests) (judged_tree schema tests) (judged_order_by schema tests) (judged_output_by schema tests) (judged_query schema tests) x) good.leaf);
+          sides = each_mapped (λ (j : Judged (List Entry)). j.passes s ≡ true) judged_t (trees x) (subst (Each (λ (j : Judged (List Entry)). j.passes s ≡ true)) sides good.inner);
+          conds = each_mapped (λ (j : Judged ℕ). j.passes (all_of s (trees x) ++ s) ≡ true) judged_e (conditions x)
+              (subst (Each (λ (j : Judged ℕ). j.passes (all_of s (trees x) ++ s) ≡ true)) (conditions_map judged_e judged_t judged_o judged_u judged_q x) (subst (λ list. Each (λ (j : Judged ℕ). j.passes (list ++ s) ≡ true) (conditions y)) seen good.conds));
+          inner = each_mapped (λ (j : Judged (List Column)). j.passes s ≡ true) judged_q (option_part (leaf_query x)) (subst (Each (λ (j : Judged (List Column)). j.passes s ≡ true)) (leaf_map judged_e judged_t judged_o judged_u judged_q x) good.leaf);
         }
 
     pub record QueryDown (s : Scope) (q : QueryLayer) : Type 0 where
       pub place : tests.scope (entries_of schema q.tree s ++ s) ≡ true
-      pub tree : (judged_tree schema tests q.tree).passes s ≡ true
-      pub columns : Each (λ y. (judged_output_by schema tests y).passes (entries_of schema q.tree s ++ s) ≡ true) q.columns
-      pub conds : Each (λ y. (judged_expr schema tests y).passes (entries_of schema q.tree s ++ s) ≡ true) q.conds
-      pub order : Each (λ y. (judged_order_by schema tests y).passes (entries_of schema q.tree s ++ s) ≡ true) q.order
+      pub tree : (judged_t q.tree).passes s ≡ true
+      pub columns : Each (λ y. (judged_u y).passes (entries_of schema q.tree s ++ s) ≡ true) q.columns
+      pub conds : Each (λ y. (judged_e y).passes (entries_of schema q.tree s ++ s) ≡ true) q.conds
+      pub order : Each (λ y. (judged_o y).passes (entries_of schema q.tree s ++ s) ≡ true) q.order
 
-    pub query_down : (s : Scope) (q : QueryLayer) → (judged_query schema tests (roll-Query q)).passes s ≡ true → QueryDown s q
+    pub query_down : (s : Scope) (q : QueryLayer) → (judged_q (roll-Query q)).passes s ≡ true → QueryDown s q
     query_down s q h =
-        let y = map-Query Expr JoinTree Order Output Query (Judged ℕ) (Judged (List Entry)) (Judged ℕ) (Judged Column) (Judged (List Column)) (judged_expr schema tests) (judged_tree schema tests) (judged_order_by schema tests) (judged_output_by schema tests) (judged_query schema tests) q in
+        let y = map-Query Expr JoinTree Order Output Query (Judged ℕ) (Judged (List Entry)) (Judged ℕ) (Judged Column) (Judged (List Column)) judged_e judged_t judged_o judged_u judged_q q in
         let good = query_passed schema tests s y (subst (λ (j : Judged (List Column)). j.passes s ≡ true) (fold-roll-Query (Judged ℕ) (Judged (List Entry)) (Judged ℕ) (Judged Column) (Judged (List Column)) (expr_judged schema tests) (tree_judged schema tests) (order_judged schema tests) (output_judged schema tests) (query_judged schema tests) q) h) in
         let seen = ap (λ (e : Scope → List Entry). e s) (entries_judged schema tests q.tree) in
         record {
           place = subst (λ list. tests.scope (list ++ s) ≡ true) seen good.place;
           tree = good.tree;
-          columns = each_mapped (λ (j : Judged Column). j.passes (entries_of schema q.tree s ++ s) ≡ true) (judged_output_by schema tests) q.columns (subst (λ list. Each (λ (j : Judged Column). j.passes (list ++ s) ≡ true) y.columns) seen good.columns);
-          conds = each_mapped (λ (j : Judged ℕ). j.passes (entries_of schema q.tree s ++ s) ≡ true) (judged_expr schema tests) q.conds (subst (λ list. Each (λ (j : Judged ℕ). j.passes (list ++ s) ≡ true) y.conds) seen good.conds);
-          order = each_mapped (λ (j : Judged ℕ). j.passes (entries_of schema q.tree s ++ s) ≡ true) (judged_order_by schema tests) q.order (subst (λ list. Each (λ (j : Judged ℕ). j.passes (list ++ s) ≡ true) y.order) seen good.order);
+          columns = each_mapped (λ (j : Judged Column). j.passes (entries_of schema q.tree s ++ s) ≡ true) judged_u q.columns (subst (λ list. Each (λ (j : Judged Column). j.passes (list ++ s) ≡ true) y.columns) seen good.columns);
+          conds = each_mapped (λ (j : Judged ℕ). j.passes (entries_of schema q.tree s ++ s) ≡ true) judged_e q.conds (subst (λ list. Each (λ (j : Judged ℕ). j.passes (list ++ s) ≡ true) y.conds) seen good.conds);
+          order = each_mapped (λ (j : Judged ℕ). j.passes (entries_of schema q.tree s ++ s) ≡ true) judged_o q.order (subst (λ list. Each (λ (j : Judged ℕ). j.passes (list ++ s) ≡ true) y.order) seen good.order);
         }
 
-    pub order_down : (s : Scope) (x : OrderLayer) → (judged_order_by schema tests (roll-Order x)).passes s ≡ true → (judged_expr schema tests x.expr).passes s ≡ true
+    pub order_down : (s : Scope) (x : OrderLayer) → (judged_o (roll-Order x)).passes s ≡ true → (judged_e x.expr).passes s ≡ true
     order_down s x h = subst (λ (j : Judged ℕ). j.passes s ≡ true) (fold-roll-Order (Judged ℕ) (Judged (List Entry)) (Judged ℕ) (Judged Column) (Judged (List Column)) (expr_judged schema tests) (tree_judged schema tests) (order_judged schema tests) (output_judged schema tests) (query_judged schema tests) x) h
 
-    pub output_down : (s : Scope) (x : OutputLayer) → (judged_output_by schema tests (roll-Output x)).passes s ≡ true → (judged_expr schema tests x.expr).passes s ≡ true
+    pub output_down : (s : Scope) (x : OutputLayer) → (judged_u (roll-Output x)).passes s ≡ true → (judged_e x.expr).passes s ≡ true
     output_down s x h = subst (λ (j : Judged Column). j.passes s ≡ true) (fold-roll-Output (Judged ℕ) (Judged (List Entry)) (Judged ℕ) (Judged Column) (Judged (List Column)) (expr_judged schema tests) (tree_judged schema tests) (order_judged schema tests) (output_judged schema tests) (query_judged schema tests) x) h

@@ -63,9 +63,18 @@ apart_level q h =
     }
 
 module _ (query : Query) (block : IsBlock query) where
+  abbrev tree : JoinTree
+  tree = (out-Query query).tree
+
+  abbrev conds : List Expr
+  conds = (out-Query query).conds
+
+  abbrev items : List JoinTree
+  items = items_in (shape_of tree)
+
   -- ---- what the conditions on the query say of its tree and its conditions
 
-  typed_parts : (tree_is_typed (out-Query query).tree ≡ true) × (are_conditions (map type_of (out-Query query).conds) ≡ true)
+  typed_parts : (tree_is_typed tree ≡ true) × (are_conditions (map type_of conds) ≡ true)
   typed_parts =
       let typed = and_parts _ _ (sym (ap (λ (t : TypedQuery). t.is_typed) (laws.at-Query Typed Bool Typed TypedOutput TypedQuery expr_type tree_typed order_typed output_typed query_typed query)) ∙ block.typed.expressions) in
       let rest = and_parts _ _ typed.1 in
@@ -74,70 +83,70 @@ module _ (query : Query) (block : IsBlock query) where
   down : (tests : Tests) → (judged_query block.schema tests query).passes block.outer ≡ true → QueryDown block.schema tests block.outer (out-Query query)
   down tests h = query_down block.schema tests block.outer (out-Query query) (subst (λ q. (judged_query block.schema tests q).passes block.outer ≡ true) (sym (roll-out-Query query)) h)
 
-  leaf_parts : Apart (map output_leaf_set (out-Query query).columns) (tree_leaf_set (out-Query query).tree) (map expr_leaf_set (out-Query query).conds)
+  leaf_parts : Apart (map output_leaf_set (out-Query query).columns) (tree_leaf_set tree) (map expr_leaf_set conds)
   leaf_parts = apart_level (query_leaves_level (out-Query query)) (sym (ap (λ (l : Leaves). l.apart) (laws.at-Query Leaves Leaves Leaves Leaves Leaves expr_leaves tree_leaves order_leaves output_leaves query_leaves query)) ∙ block.typed.apart)
 
-  sheltered : Sheltered (own_leaves (out-Query query).tree) (exprs_in (shape_of (out-Query query).tree)) (tree_leaf_set (out-Query query).tree)
-  sheltered = told (out-Query query).tree leaf_parts.tree
+  sheltered : Sheltered (own_leaves tree) (exprs_in (shape_of tree)) (tree_leaf_set tree)
+  sheltered = told tree leaf_parts.tree
 
-  pub rooted : HasItems (shape_of (out-Query query).tree)
+  pub rooted : HasItems (shape_of tree)
   rooted =
       let parts = and_parts _ _ (sym (laws.at-Query Bool Bool Bool Bool Bool expr_rooted tree_rooted order_rooted output_rooted query_rooted query) ∙ block.typed.rooted) in
-      has_items (out-Query query).tree (and_parts _ _ parts.1).0
+      has_items tree (and_parts _ _ parts.1).0
 
   -- ---- items have relations of their own
 
-  own_of : (t : JoinTree) (rel : ℕ) → In t (items_in (shape_of (out-Query query).tree)) → Has (rels_of t) rel → In rel (own_leaves (out-Query query).tree)
-  own_of t rel m h = subst (In rel) (sym (own_items (out-Query query).tree)) (own_at (items_in (shape_of (out-Query query).tree)) t rel m (to_in rel (own_leaves t) (rels_are_own t rel h)))
+  own_of : (t : JoinTree) (rel : ℕ) → In t items → Has (rels_of t) rel → In rel (own_leaves tree)
+  own_of t rel m h = subst (In rel) (sym (own_items tree)) (own_at items t rel m (to_in rel (own_leaves t) (rels_are_own t rel h)))
 
-  one : (j k : ℕ) (t u : JoinTree) (rel : ℕ) → slice_get (items_in (shape_of (out-Query query).tree)) j ≡ Some t → slice_get (items_in (shape_of (out-Query query).tree)) k ≡ Some u → Has (rels_of t) rel → Has (rels_of u) rel → j ≡ k
+  one : (j k : ℕ) (t u : JoinTree) (rel : ℕ) → slice_get items j ≡ Some t → slice_get items k ≡ Some u → Has (rels_of t) rel → Has (rels_of u) rel → j ≡ k
   one j k t u rel e f h m =
-      one_place (items_in (shape_of (out-Query query).tree)) (subst Distinct (own_items (out-Query query).tree) sheltered.distinct) j k t u rel e f (to_in rel (own_leaves t) (rels_are_own t rel h)) (to_in rel (own_leaves u) (rels_are_own u rel m))
+      one_place items (subst Distinct (own_items tree) sheltered.distinct) j k t u rel e f (to_in rel (own_leaves t) (rels_are_own t rel h)) (to_in rel (own_leaves u) (rels_are_own u rel m))
 
-  outside : (rel : ℕ) → InEntries block.outer rel → Foreign (items_in (shape_of (out-Query query).tree)) one rel
+  outside : (rel : ℕ) → InEntries block.outer rel → Foreign items one rel
   outside rel e t m h =
-      let leaf = own_in_query query rel (from_in rel (own_leaves (out-Query query).tree) (own_of t rel m h)) in
+      let leaf = own_in_query query rel (from_in rel (own_leaves tree) (own_of t rel m h)) in
       each_in (NotIn block.outer) (leaves_in query) rel (leaves_apart block.schema query block.outer block.typed.distinct) (to_in rel (leaves_in query) leaf) e
 
-  hidden : (e : Expr) (rel : ℕ) → In e (exprs_in (shape_of (out-Query query).tree)) → HasLeaf (expr_leaf_set e) rel → Foreign (items_in (shape_of (out-Query query).tree)) one rel
+  hidden : (e : Expr) (rel : ℕ) → In e (exprs_in (shape_of tree)) → HasLeaf (expr_leaf_set e) rel → Foreign items one rel
   hidden e rel m leaf t k h = sheltered.away e rel m (own_of t rel k h) leaf
 
-  hidden_above : (e : Expr) (rel : ℕ) → In e (out-Query query).conds → HasLeaf (expr_leaf_set e) rel → Foreign (items_in (shape_of (out-Query query).tree)) one rel
+  hidden_above : (e : Expr) (rel : ℕ) → In e conds → HasLeaf (expr_leaf_set e) rel → Foreign items one rel
   hidden_above e rel m leaf t k h =
       let before = together (map output_leaf_set (out-Query query).columns) in
-      let found = own_found (out-Query query).tree rel (own_of t rel k h) in
-      let inside = of_together rel (map expr_leaf_set (out-Query query).conds) (expr_leaf_set e) (in_map expr_leaf_set e (out-Query query).conds m) leaf in
-      none_inside rel (leaves_beside before (tree_leaf_set (out-Query query).tree)).leaves (together (map expr_leaf_set (out-Query query).conds)).leaves inside.0 leaf_parts.conds (in_append_right (own_leaf rel) before.leaves (tree_leaf_set (out-Query query).tree).leaves found) inside.1 inside.2
+      let found = own_found tree rel (own_of t rel k h) in
+      let inside = of_together rel (map expr_leaf_set conds) (expr_leaf_set e) (in_map expr_leaf_set e conds m) leaf in
+      none_inside rel (leaves_beside before (tree_leaf_set tree)).leaves (together (map expr_leaf_set conds)).leaves inside.0 leaf_parts.conds (in_append_right (own_leaf rel) before.leaves (tree_leaf_set tree).leaves found) inside.1 inside.2
 
   -- ---- what the expressions of the block see
 
-  tree_by : SeenBy (Foreign (items_in (shape_of (out-Query query).tree)) one) (shape_of (out-Query query).tree)
+  tree_by : SeenBy (Foreign items one) (shape_of tree)
   tree_by =
       let c = down knows_columns block.typed.columns in
       let d = down knows_placeholders block.typed.placeholders in
-      tree_seen block.schema block.outer (Foreign (items_in (shape_of (out-Query query).tree)) one) outside (out-Query query).tree c.tree d.tree typed_parts.0 hidden
+      tree_seen block.schema block.outer (Foreign items one) outside tree c.tree d.tree typed_parts.0 hidden
 
-  conds_by : (es : List Expr) → ((e : Expr) → In e es → In e (out-Query query).conds) → Each (λ e. (judged_expr block.schema knows_columns e).passes (entries_of block.schema (out-Query query).tree block.outer ++ block.outer) ≡ true) es → Each (λ e. (judged_expr block.schema knows_placeholders e).passes (entries_of block.schema (out-Query query).tree block.outer ++ block.outer) ≡ true) es
-      → Each (Sees (Foreign (items_in (shape_of (out-Query query).tree)) one) (shape_of (out-Query query).tree)) es
+  conds_by : (es : List Expr) → ((e : Expr) → In e es → In e conds) → Each (λ e. (judged_expr block.schema knows_columns e).passes (entries_of block.schema tree block.outer ++ block.outer) ≡ true) es → Each (λ e. (judged_expr block.schema knows_placeholders e).passes (entries_of block.schema tree block.outer ++ block.outer) ≡ true) es
+      → Each (Sees (Foreign items one) (shape_of tree)) es
   conds_by [] sub columns places = tt
   conds_by (e ∷ es) sub columns places = (
-    sees block.schema block.outer (Foreign (items_in (shape_of (out-Query query).tree)) one) outside (shape_of (out-Query query).tree) (entries_of block.schema (out-Query query).tree block.outer) e (λ rel p. among_items (out-Query query).tree rel ((are_rels block.schema block.outer (out-Query query).tree rel).1 p)) columns.0 places.0 (λ rel l. hidden_above e rel (sub e (inl refl)) l),
+    sees block.schema block.outer (Foreign items one) outside (shape_of tree) (entries_of block.schema tree block.outer) e (λ rel p. among_items tree rel ((are_rels block.schema block.outer tree rel).1 p)) columns.0 places.0 (λ rel l. hidden_above e rel (sub e (inl refl)) l),
     conds_by es (λ x m. sub x (inr m)) columns.1 places.1,
   )
 
-  block_seen : Seen (map known_rels (items_in (shape_of (out-Query query).tree))) (block_shape query) top
+  block_seen : Seen (map known_rels items) (block_shape query) top
   block_seen =
       let c = down knows_columns block.typed.columns in
       let d = down knows_placeholders block.typed.placeholders in
-      seen (items_in (shape_of (out-Query query).tree)) one (block_shape query) top (λ k t e. subst (λ n. slice_get (items_in (shape_of (out-Query query).tree)) n ≡ Some t) (omega arith) e) (tree_by, conds_by (out-Query query).conds (λ e m. m) c.conds d.conds)
+      seen items one (block_shape query) top (λ k t e. subst (λ n. slice_get items n ≡ Some t) (omega arith) e) (tree_by, conds_by conds (λ e m. m) c.conds d.conds)
 
   -- ---- the outline
 
-  pub same_length : length (items_in (shape_of (out-Query query).tree)) ≡ length (outline_of query).rels
-  same_length = sym (length-map (items_in (shape_of (out-Query query).tree)) known_rels)
+  pub same_length : length items ≡ length (outline_of query).rels
+  same_length = sym (length-map items known_rels)
 
-  standing : Standing (span 0 (length (outline_of query).rels)) 0 (0 + count_joins (shape_of (out-Query query).tree)) 0 (map sides_of (outline_of query).joins)
-  standing = subst (λ n. Standing (span 0 n) 0 (0 + count_joins (shape_of (out-Query query).tree)) 0 (map sides_of (outline_of query).joins)) same_length (stands (item_rels (block_shape query)) (block_shape query) top rooted.rooted)
+  standing : Standing (span 0 (length (outline_of query).rels)) 0 (0 + count_joins (shape_of tree)) 0 (map sides_of (outline_of query).joins)
+  standing = subst (λ n. Standing (span 0 n) 0 (0 + count_joins (shape_of tree)) 0 (map sides_of (outline_of query).joins)) same_length (stands (item_rels (block_shape query)) (block_shape query) top rooted.rooted)
 
   clause_lies : (c : Placed) → In c (outline_of query).clauses → LiesInRegion (span 0 (length (outline_of query).rels)) (map sides_of (outline_of query).joins) c.region c.uses
   clause_lies c h = elim (clauses_seen (item_rels (block_shape query)) (block_shape query) top block_seen c h).lies [
@@ -147,7 +156,7 @@ module _ (query : Query) (block : IsBlock query) where
 
   pub laid : Laid (outline_of query) (span 0 (length (outline_of query).rels))
   laid = record {
-    high = 0 + count_joins (shape_of (out-Query query).tree);
+    high = 0 + count_joins (shape_of tree);
     some = (0, (has_span 0 (length (outline_of query).rels) 0).1 (omega arith, omega (arith, rooted.some, same_length)));
     numbered = numbered (item_rels (block_shape query)) (block_shape query) top;
     standing = standing;
@@ -160,4 +169,4 @@ module _ (query : Query) (block : IsBlock query) where
 
   -- the relations of items lie below 64
   pub low : (k r : ℕ) → slice_get (outline_of query).rels k ≡ Some r → (i : ℕ) → Has r i → i < 64
-  low k r e i h = let place = mapped_place known_rels (items_in (shape_of (out-Query query).tree)) k r e in known_low (rels_of place.0) i (subst (λ n. Has n i) (sym place.2) h)
+  low k r e i h = let place = mapped_place known_rels items k r e in known_low (rels_of place.0) i (subst (λ n. Has n i) (sym place.2) h)

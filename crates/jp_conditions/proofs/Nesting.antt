@@ -17,10 +17,6 @@ use Rattle.jp_conditions.proofs.Sources.{special_sides, same_sides}
 use Rattle.jp_conditions.proofs.Standing.{Sides, whole, Related, IsJoin, sides_apart, lower}
 
 module _ (block : Outline) (set : ℕ) (laid : Laid block set) where
-  -- a special join of the block
-  abbrev pub Joins : Special → Type 0
-  Joins s = In s (specials_in block)
-
   pub join_at : (s : Special) → In s (specials_in block) → IsJoin (special_sides s)
   join_at s h = laid.standing.joins (special_sides s) (stands_at block set laid s h)
 

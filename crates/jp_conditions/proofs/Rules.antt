@@ -12,7 +12,6 @@ use Rattle.jp_query.specs.Nullness.{rejects}
 use Rattle.jp_query.specs.Nullness.Gone.{relations}
 use Rattle.jp_problem.specs.declared.types.Outline.{Outline}
 use Rattle.jp_problem.specs.declared.types.Placed.{Placed}
-use Rattle.jp_problem.specs.declared.types.Rule.{Rule}
 use Rattle.jp_problem.specs.declared.types.Special.{Special}
 use Rattle.jp_problem.specs.declared.types.Written.{Written}
 use Rattle.jp_problem.specs.Blocks.{rels_at, used_by}
@@ -60,9 +59,6 @@ pub record RightRules (block : Outline) (joins : List Special) (s : Special) (se
   pub needs : (c : Placed) → In c block.clauses → c.region ≡ s.no → Within (clause_needs joins s.syn_right c.uses) set
   pub takes : (u : Special) → In u joins → is_left u.kind ≡ true → Within (written_items u) s.syn_right → Meets set u.min_right → Takes set u
   pub loose : (u : Special) → In u joins → is_left u.kind ≡ true → Within (written_items u) s.syn_right → Meets set u.min_left → Takes set u ⊎ Anchored block.rels s.syn_right set u
-
-not_of : (b : Bool) → b ≡ false → not b ≡ true
-not_of b e = not_from_false b e
 
 not_back : (b : Bool) → not b ≡ false → b ≡ true
 not_back true e = refl
@@ -118,22 +114,16 @@ module _ (block : Outline) (set : ℕ) (laid : Laid block set) where
 
     -- ---- the right set of a Left join
 
-    abbrev seed : ℕ
-    seed = right_seed block before w
+    abbrev minimum : ℕ
+    minimum = closure (right_rules block.rels before w) (right_seed block before w)
 
-    abbrev rules : List Rule
-    rules = right_rules block.rels before w
+    abbrev seeds : List ℕ
+    seeds = used_in w w.syn_right ∷ without w.syn_right (nulled_below before w) ∷ filtering_sets before w ∷ region_needs block.clauses before w ∷ kept_placeholders block.placeholders w ∷ []
 
-    abbrev all_of : ℕ
-    all_of = closure (right_rules block.rels before w) (right_seed block before w)
+    from_seed : (x : ℕ) → In x seeds → Within x minimum
+    from_seed x h i p = holds_seed (right_rules block.rels before w) (right_seed block before w) i (in_union x seeds h i p)
 
-    abbrev five : List ℕ
-    five = used_in w w.syn_right ∷ without w.syn_right (nulled_below before w) ∷ filtering_sets before w ∷ region_needs block.clauses before w ∷ kept_placeholders block.placeholders w ∷ []
-
-    from_seed : (x : ℕ) → In x (used_in w w.syn_right ∷ without w.syn_right (nulled_below before w) ∷ filtering_sets before w ∷ region_needs block.clauses before w ∷ kept_placeholders block.placeholders w ∷ []) → Within x (closure (right_rules block.rels before w) (right_seed block before w))
-    from_seed x h i p = holds_seed (right_rules block.rels before w) (right_seed block before w) i (in_union x (used_in w w.syn_right ∷ without w.syn_right (nulled_below before w) ∷ filtering_sets before w ∷ region_needs block.clauses before w ∷ kept_placeholders block.placeholders w ∷ []) h i p)
-
-    kept : (i : ℕ) → Has w.syn_right i → ¬ Has (nulled_below before w) i → Has (closure (right_rules block.rels before w) (right_seed block before w)) i
+    kept : (i : ℕ) → Has w.syn_right i → ¬ Has (nulled_below before w) i → Has minimum i
     kept i h free = from_seed (without w.syn_right (nulled_below before w)) (inr (inl refl)) i ((has_without w.syn_right (nulled_below before w) i).1 (h, free))
 
     nulled_by : (i : ℕ) → Has w.syn_right i → Has (nulled_below before w) i → NulledBy (specials_in block) (with_sets block before w) i
@@ -148,13 +138,13 @@ module _ (block : Outline) (set : ℕ) (laid : Laid block set) where
         right_side u known m (inr e) = (is_within_says (written_items u) w.syn_right).0 e
         right_side u known m (inl e) = absurd (sides_apart set 0 laid.high 0 (map sides_of block.joins) laid.standing (sides_of w) placed (i, (is_within_says (written_items u) w.syn_left).0 e i (in_right u.syn_left u.syn_right i ((bounded block set laid u known).right i m)), h))
 
-    own_items : (i : ℕ) → Has w.syn_right i → Has (closure (right_rules block.rels before w) (right_seed block before w)) i ⊎ NulledBy (specials_in block) (with_sets block before w) i
+    own_items : (i : ℕ) → Has w.syn_right i → Has minimum i ⊎ NulledBy (specials_in block) (with_sets block before w) i
     own_items i h = elim (cases_eq (bit_at (nulled_below before w) i) 1) [ inl n ↦ inr (nulled_by i h n) | inr free ↦ inl (kept i h free) ]
 
-    filters_in : (v : Special) → In v (specials_in block) → v.region ≡ w.no → is_left v.kind ≡ false → Takes (closure (right_rules block.rels before w) (right_seed block before w)) v
+    filters_in : (v : Special) → In v (specials_in block) → v.region ≡ w.no → is_left v.kind ≡ false → Takes minimum v
     filters_in v h e k =
         let b = from_right v h (in_region block set laid v (sides_of w) h placed e) in
-        takes (closure (right_rules block.rels before w) (right_seed block before w)) v (λ i p. from_seed (filtering_sets before w) (inr (inr (inl refl))) i (in_union_each both_sets (filters_side w) before v b (bool_not (v.region == w.no) (is_left_join v) (eq-eqb v.region w.no e) k) i p))
+        takes minimum v (λ i p. from_seed (filtering_sets before w) (inr (inr (inl refl))) i (in_union_each both_sets (filters_side w) before v b (bool_not (v.region == w.no) (is_left_join v) (eq-eqb v.region w.no e) k) i p))
 
     -- what a clause needs among all joins it needs among those before
     same_needs : (uses : ℕ) → Within (clause_needs (specials_in block) w.syn_right uses) (clause_needs before w.syn_right uses)
@@ -162,37 +152,37 @@ module _ (block : Outline) (set : ℕ) (laid : Laid block set) where
         least_of (taken_in_side (specials_in block) w.syn_right) (or_if_empty uses w.syn_right) (clause_needs before w.syn_right uses) (holds_seed (taken_in_side before w.syn_right) (or_if_empty uses w.syn_right))
         (each_rule (stands_in w.syn_right) taken_by_right (specials_in block) (IsClosedUnder (clause_needs before w.syn_right uses)) (λ t h e meets. closed_at (taken_in_side before w.syn_right) (or_if_empty uses w.syn_right) (taken_by_right t) (rule_of (stands_in w.syn_right) taken_by_right before t (from_right t h ((is_within_says (written_items t) w.syn_right).0 e)) e) meets))
 
-    needs_held : (c : Placed) → In c block.clauses → c.region ≡ w.no → Within (clause_needs (specials_in block) w.syn_right c.uses) (closure (right_rules block.rels before w) (right_seed block before w))
+    needs_held : (c : Placed) → In c block.clauses → c.region ≡ w.no → Within (clause_needs (specials_in block) w.syn_right c.uses) minimum
     needs_held c h e i p = from_seed (region_needs block.clauses before w) (inr (inr (inr (inl refl)))) i (in_union_each (needs_in before w.syn_right) (is_in_region w.no) block.clauses c h (eq-eqb c.region w.no e) i (same_needs c.uses i p))
 
     inside_true : (u : Special) → is_left u.kind ≡ true → Within (written_items u) w.syn_right → is_left_inside w u ≡ true
     inside_true u k v = and_from (is_left_join u) (stands_in w.syn_right u) k (stands_true u w.syn_right v)
 
-    come_along : (u : Special) → In u (specials_in block) → is_left u.kind ≡ true → Within (written_items u) w.syn_right → Meets (closure (right_rules block.rels before w) (right_seed block before w)) u.min_right → Takes (closure (right_rules block.rels before w) (right_seed block before w)) u
+    come_along : (u : Special) → In u (specials_in block) → is_left u.kind ≡ true → Within (written_items u) w.syn_right → Meets minimum u.min_right → Takes minimum u
     come_along u h k v meets =
-        takes (closure (right_rules block.rels before w) (right_seed block before w)) u (closed_at (right_rules block.rels before w) (right_seed block before w) (taken_by_right u)
+        takes minimum u (closed_at (right_rules block.rels before w) (right_seed block before w) (taken_by_right u)
         (in_append_left (taken_by_right u) (map taken_by_right (filter (is_left_inside w) before)) (map taken_by_left (filter (is_unanchored block.rels (nulled_below before w) w) before)) (rule_of (is_left_inside w) taken_by_right before u (from_right u h v) (inside_true u k v))) meets)
 
-    unanchored : (u : Special) → In u (specials_in block) → is_left u.kind ≡ true → Within (written_items u) w.syn_right → Meets (closure (right_rules block.rels before w) (right_seed block before w)) u.min_left → has_no_anchor block.rels (nulled_below before w) u ≡ true → Takes (closure (right_rules block.rels before w) (right_seed block before w)) u
+    unanchored : (u : Special) → In u (specials_in block) → is_left u.kind ≡ true → Within (written_items u) w.syn_right → Meets minimum u.min_left → has_no_anchor block.rels (nulled_below before w) u ≡ true → Takes minimum u
     unanchored u h k v meets free =
-        takes (closure (right_rules block.rels before w) (right_seed block before w)) u (closed_at (right_rules block.rels before w) (right_seed block before w) (taken_by_left u)
+        takes minimum u (closed_at (right_rules block.rels before w) (right_seed block before w) (taken_by_left u)
         (in_append_right (taken_by_left u) (map taken_by_right (filter (is_left_inside w) before)) (map taken_by_left (filter (is_unanchored block.rels (nulled_below before w) w) before))
         (rule_of (is_unanchored block.rels (nulled_below before w) w) taken_by_left before u (from_right u h v) (and_from (is_left_inside w u) (has_no_anchor block.rels (nulled_below before w) u) (inside_true u k v) free))) meets)
 
-    anchored : (u : Special) → has_anchor block.rels (nulled_below before w) u ≡ true → Anchored block.rels w.syn_right (closure (right_rules block.rels before w) (right_seed block before w)) u
+    anchored : (u : Special) → has_anchor block.rels (nulled_below before w) u ≡ true → Anchored block.rels w.syn_right minimum u
     anchored u e =
         let a = first_anchor block.rels (nulled_below before w) u e in
         let parts = and_parts (not (has (nulled_below before w) a.0)) (rejects (relations a.1) u.on) a.3 in
         (a.0, a.1, a.2, λ h. kept a.0 h (λ n. both_ways (has (nulled_below before w) a.0) (not-true (has (nulled_below before w) a.0) parts.0) (eq-eqb (bit_at (nulled_below before w) a.0) 1 n)), parts.1)
 
-    loosely : (u : Special) → In u (specials_in block) → is_left u.kind ≡ true → Within (written_items u) w.syn_right → Meets (closure (right_rules block.rels before w) (right_seed block before w)) u.min_left
-        → Takes (closure (right_rules block.rels before w) (right_seed block before w)) u ⊎ Anchored block.rels w.syn_right (closure (right_rules block.rels before w) (right_seed block before w)) u
+    loosely : (u : Special) → In u (specials_in block) → is_left u.kind ≡ true → Within (written_items u) w.syn_right → Meets minimum u.min_left
+        → Takes minimum u ⊎ Anchored block.rels w.syn_right minimum u
     loosely u h k v meets = elim (cases_Bool (has_anchor block.rels (nulled_below before w) u)) [
       | inl e ↦ inr (anchored u e)
       | inr e ↦ inl (unanchored u h k v meets (not_from_false (has_anchor block.rels (nulled_below before w) u) e))
     ]
 
-    of_left : RightRules block (specials_in block) (with_sets block before w) (closure (right_rules block.rels before w) (right_seed block before w))
+    of_left : RightRules block (specials_in block) (with_sets block before w) minimum
     of_left = record {
       uses = λ i h p. from_seed (used_in w w.syn_right) (inl refl) i (used_has w.syn_right i h p);
       own = own_items;
@@ -217,7 +207,7 @@ module _ (block : Outline) (set : ℕ) (laid : Laid block set) where
       loose = λ u h k v meets. inl (in_side u h v);
     }
 
-    of_either : (b : Bool) → RightRules block (specials_in block) (with_sets block before w) (if b then closure (right_rules block.rels before w) (right_seed block before w) else w.syn_right)
+    of_either : (b : Bool) → RightRules block (specials_in block) (with_sets block before w) (if b then minimum else w.syn_right)
     of_either true = of_left
     of_either false = of_other
 
@@ -225,7 +215,7 @@ module _ (block : Outline) (set : ℕ) (laid : Laid block set) where
     right_rules_hold = of_either (is_left w.kind)
 
     pub whole_side : is_left w.kind ≡ false → (with_sets block before w).min_right ≡ w.syn_right
-    whole_side e = ap (λ b. if b then closure (right_rules block.rels before w) (right_seed block before w) else w.syn_right) e
+    whole_side e = ap (λ b. if b then minimum else w.syn_right) e
 
   abbrev Older : Special → List Special → Type 0
   Older s before = (t : Special) → In t before → In t (specials_in block) × (t.no < s.no)

@@ -36,28 +36,28 @@ module _ (block : Outline) where
     abbrev made : Special
     made = with_sets block joins w
 
-    more : List Special
+    abbrev more : List Special
     more = joins ++ made ∷ []
 
-    longer : length (joins ++ made ∷ []) ≡ suc (length joins)
+    longer : length more ≡ suc (length joins)
     longer = omega (arith, length-append joins (made ∷ []))
 
     data Was (t : Special) : Type 0 where
       before : In t joins → Was t
       new : made ≡ t → Was t
 
-    was : (t : Special) → In t (joins ++ made ∷ []) → Was t
+    was : (t : Special) → In t more → Was t
     was t h = elim (from_append t joins (made ∷ []) h) [ inl k ↦ before k | inr k ↦ elim k [ inl e ↦ new e | inr gone ↦ absurd gone ] ]
 
-    low_of : (t : Special) → Was t → t.no ≤ length (joins ++ made ∷ [])
+    low_of : (t : Special) → Was t → t.no ≤ length more
     low_of t (before h) = let k = p.low t h in omega (arith, k, longer)
-    low_of t (new e) = subst (λ (s : Special). s.no ≤ length (joins ++ made ∷ [])) e (omega (arith, next, longer))
+    low_of t (new e) = subst (λ (s : Special). s.no ≤ length more) e (omega (arith, next, longer))
 
     older : (s t : Special) → s.no ≤ length joins → Was t → t.no < s.no → In t joins
     older s t bound (before h) low = h
     older s t bound (new e) low = absurd (omega (arith, ap special_no e, next, bound, low))
 
-    from_of : (s : Special) → Was s → IsFrom (joins ++ made ∷ []) s
+    from_of : (s : Special) → Was s → IsFrom more s
     from_of s (before h) = let f = p.each s h in record {
       before = f.before;
       written = f.written;
@@ -75,7 +75,7 @@ module _ (block : Outline) where
       all = λ t k low. elim (from_append t joins (made ∷ []) k) [ inl m ↦ m | inr m ↦ elim m [ inl f ↦ absurd (omega (arith, ap special_no e, ap special_no f, low)) | inr gone ↦ absurd gone ] ];
     }
 
-    pub one_more_from : AreFrom (joins ++ made ∷ [])
+    pub one_more_from : AreFrom more
     one_more_from = record { low = λ t h. low_of t (was t h); each = λ s h. from_of s (was s h) }
 
   folded : (joins : List Special) (ws : List Written) → ((w : Written) → In w ws → In w block.joins) → Numbered written_no (length joins) ws → AreFrom joins → AreFrom (fold (one_more block) joins ws)

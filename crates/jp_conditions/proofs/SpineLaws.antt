@@ -75,12 +75,6 @@ module _ (items : List Item) (block : Outline) (set : ℕ) (laid : Laid block se
   -- ---- two parts of a tree and the join over them
 
   module _ (left right : Shape) (at : Place) where
-    abbrev a : ℕ
-    a = items_at at left
-
-    abbrev b : ℕ
-    b = items_at (behind left at) right
-
     parts_apart : Apart (items_at at left) (items_at (behind left at) right)
     parts_apart = spans_apart at.items (length (items_in left)) (length (items_in right))
 
