@@ -1,7 +1,9 @@
 pub mod Bounds
 pub mod Closures
 pub mod Covering
+pub mod Deriving
 pub mod Entering
+pub mod Equal
 pub mod Forms
 pub mod Items
 pub mod Judging
@@ -26,3 +28,4 @@ pub mod Standing
 pub mod Steps
 pub mod Untouched
 pub mod Visible
+pub mod WithClasses

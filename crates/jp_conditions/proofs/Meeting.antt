@@ -43,6 +43,12 @@ join_found (t ∷ joins) s (inr h) one = elim (cases_eq t.no s.no) [
   | inr other ↦ ap (λ b. if b then Some t else join_of joins s.no) (ne_eqb t.no s.no other) ∙ join_found joins s h (λ u k e. one u (inr k) e)
 ]
 
+module _ (block : Outline) (laid : Laid block (span 0 (length block.rels))) where
+  -- the items of a join's region are those of its right side
+  pub region_side : (region : ℕ) (s : Special) → In s (specials_in block) → s.no ≡ region → region_items (span 0 (length block.rels)) (specials_in block) region ≡ s.syn_right
+  region_side zero s h e = let k = from_one block (span 0 (length block.rels)) laid s h in absurd (omega (arith, e, k))
+  region_side (suc r) s h e = ap side_of (subst (λ n. join_of (specials_in block) n ≡ Some s) e (join_found (specials_in block) s h (λ t k f. one_join block (span 0 (length block.rels)) laid t s k h f)))
+
 module _ (items : List Item) (block : Outline) (same : map rels_of_item items ≡ block.rels) (laid : Laid block (span 0 (length block.rels))) (low : (k r : ℕ) → slice_get block.rels k ≡ Some r → (i : ℕ) → Has r i → i < 64) where
   abbrev all : ℕ
   all = span 0 (length block.rels)
@@ -52,10 +58,6 @@ module _ (items : List Item) (block : Outline) (same : map rels_of_item items �
 
   member : (s : Special) → Contains (specials_in block) s → In s (specials_in block)
   member s h = to_in s (specials_in block) h
-
-  side_at : (region : ℕ) (s : Special) → In s (specials_in block) → s.no ≡ region → region_items all (specials_in block) region ≡ s.syn_right
-  side_at zero s h e = let k = from_one block all laid s h in absurd (omega (arith, e, k))
-  side_at (suc r) s h e = ap side_of (subst (λ n. join_of (specials_in block) n ≡ Some s) e (join_found (specials_in block) s h (λ t k f. one_join block all laid t s k h f)))
 
   -- the region of a clause: the top, or a join
   data Region (c : Placed) : Type 0 where
@@ -76,13 +78,13 @@ module _ (items : List Item) (block : Outline) (same : map rels_of_item items �
 
   side_some : (c : Placed) → Region c → forms.Some (region_items all (specials_in block) c.region)
   side_some c (Region.top e w) = subst (λ n. forms.Some (region_items all (specials_in block) n)) (sym e) laid.some
-  side_some c (Region.of_join s h e) = subst forms.Some (sym (side_at c.region s h e)) (let f = (join_at block all laid s h).right_first in (f.0, f.1))
+  side_some c (Region.of_join s h e) = subst forms.Some (sym (region_side block laid c.region s h e)) (let f = (join_at block all laid s h).right_first in (f.0, f.1))
 
   some_needed : (c : Placed) → In c block.clauses → forms.Some (needs c)
   some_needed c h = let seed = or_some c.uses (side c) (side_some c (region c h)) in (seed.0, holds_seed (taken_in_side (specials_in block) (side c)) (or_if_empty c.uses (side c)) seed.0 seed.1)
 
   needed_within : (c : Placed) (r : Special) → In c block.clauses → In r (specials_in block) → r.no ≡ c.region → Within (needs c) r.min_right
-  needed_within c r h k e = subst (λ n. Within (clause_needs (specials_in block) n c.uses) r.min_right) (sym (side_at c.region r k e)) ((right_rules_of block all laid r k).needs c h (sym e))
+  needed_within c r h k e = subst (λ n. Within (clause_needs (specials_in block) n c.uses) r.min_right) (sym (region_side block laid c.region r k e)) ((right_rules_of block all laid r k).needs c h (sym e))
 
   taken : (c : Placed) (t : Special) → In t (specials_in block) → Within (written_items t) (side c) → Meets t.min_right (needs c) → Within t.min_left (needs c) × Within t.min_right (needs c)
   taken c t k w m =
@@ -94,7 +96,7 @@ module _ (items : List Item) (block : Outline) (same : map rels_of_item items �
   closed c t h k (inr r) m =
       let of_r = member r.0 r.1 in
       let held = inner_held block all laid t r.0 k of_r (λ e. not_in_itself block all laid t k (subst (λ (x : Special). Within t.min_left x.min_right) (one_join block all laid r.0 t of_r k (sym e)) r.3.left)) r.3.right in
-      taken c t k (subst (Within (written_items t)) (sym (side_at c.region r.0 of_r r.2)) held.stands) m
+      taken c t k (subst (Within (written_items t)) (sym (region_side block laid c.region r.0 of_r r.2)) held.stands) m
 
   placed_of : (c : Clause) → Contains (clauses_in block) c → (p : Placed) × In p block.clauses × (clause_of block.rels (specials_in block) p ≡ c)
   placed_of c h = from_map (clause_of block.rels (specials_in block)) c block.clauses (to_in c (clauses_in block) h)

@@ -36,6 +36,13 @@ chosen_some false a b e some = (not_empty_says a).0 (not_from_false (is_empty a)
 pub or_some : (a b : ℕ) → Some b → Some (or_if_empty a b)
 or_some a b some = chosen_some (is_empty a) a b refl some
 
+chosen_held : (e : Bool) (a b c : ℕ) → is_empty a ≡ e → Some a → Within a c → Within (if e then b else a) c
+chosen_held true a b c e some w = absurd ((is_empty_says a).0 e some.0 some.1)
+chosen_held false a b c e some w = w
+
+pub or_held : (a b c : ℕ) → Some a → Within a c → Within (or_if_empty a b) c
+or_held a b c some w = chosen_held (is_empty a) a b c refl some w
+
 pub if_within : (test : Bool) (set c : ℕ) → (test ≡ true → Within set c) → Within (set_if test set) c
 if_within true set c h = h refl
 if_within false set c h = λ i p. absurd (has_none i p)

@@ -19,6 +19,7 @@ use Rattle.jp_problem.specs.declared.types.Step.{Step}
 use Rattle.jp_problem.specs.declared.types.Step.TheVariants.{Inner, By}
 use Rattle.jp_problem.specs.declared.types.Written.{Written}
 use Rattle.jp_problem.specs.Blocks.{top, behind, number_of, in_right_side, items_at, written, joins_at, outline_of}
+use Rattle.jp_problem.specs.Classes.{derived}
 use Rattle.jp_problem.specs.Legal.{Apart, IsLegalStep}
 use Rattle.jp_problem.specs.Made.{IsBlock}
 use Rattle.jp_problem.specs.Problems.{AreItemsOf, rels_of_item, problem_in, problem_of}
@@ -37,6 +38,7 @@ use Rattle.jp_conditions.proofs.Spans.{has_span, spans_apart, apart_within, apar
 use Rattle.jp_conditions.proofs.Stages.{Outside, Stage, narrowed}
 use Rattle.jp_conditions.proofs.Standing.{Sides, whole}
 use Rattle.jp_conditions.proofs.Steps.{inner_step, by_step}
+use Rattle.jp_conditions.proofs.WithClasses.{IsNested, plan_still}
 
 module _ {X Y : Type 0} (f : X → Y) (xs ys : List X) (y : Y) where
   mapped_left : In y (map f xs) → In y (map f (xs ++ ys))
@@ -70,7 +72,7 @@ module _ (items : List Item) (block : Outline) (set : ℕ) (laid : Laid block se
   -- what the spine of a shape is: none where it has no items, else a legal tree of them
   pub data Walked (shape : Shape) (at : Place) : Type 0 where
     empty : length (items_in shape) ≡ 0 → spine_at shape at ≡ None → Walked shape at
-    tree : (t : Tree) → 1 ≤ length (items_in shape) → spine_at shape at ≡ Some t → set_of t ≡ items_at at shape → IsLegalTree (problem_in items block) t → Walked shape at
+    tree : (t : Tree) → 1 ≤ length (items_in shape) → spine_at shape at ≡ Some t → set_of t ≡ items_at at shape → IsNested t → IsLegalTree (problem_in items block) t → Walked shape at
 
   -- ---- two parts of a tree and the join over them
 
@@ -91,15 +93,16 @@ module _ (items : List Item) (block : Outline) (set : ℕ) (laid : Laid block se
     stepped_tree : (kind : Step) (shape : Shape) (here : Place) → items_in shape ≡ items_in left ++ items_in right → spine_at shape at ≡ stepped kind (spine_at left at) (spine_at right here) → items_at here right ≡ items_at (behind left at) right
         → (1 ≤ length (items_in left) → 1 ≤ length (items_in right) → IsLegalStep (problem_in items block) (items_at at left) (items_at (behind left at) right) kind) → Walked left at → Walked right here → Walked shape at
     stepped_tree kind shape here is spine where_right legal (Walked.empty none e) (Walked.empty gone f) = Walked.empty (ap length is ∙ length-append (items_in left) (items_in right) ∙ ap₂ ◌+◌ none gone) (spine ∙ ap₂ (stepped kind) e f)
-    stepped_tree kind shape here is spine where_right legal (Walked.empty none e) (Walked.tree t some f all good) =
+    stepped_tree kind shape here is spine where_right legal (Walked.empty none e) (Walked.tree t some f all nest good) =
         Walked.tree t (subst (λ xs. 1 ≤ length xs) (sym is) (omega (arith, length-append (items_in left) (items_in right), some))) (spine ∙ ap₂ (stepped kind) e f)
-        (all ∙ where_right ∙ behind_none at.items (length (items_in left)) (length (items_in right)) none ∙ ap (span at.items) (sym (length-append (items_in left) (items_in right))) ∙ ap (λ xs. span at.items (length xs)) (sym is)) good
-    stepped_tree kind shape here is spine where_right legal (Walked.tree t some e all good) (Walked.empty gone f) =
+        (all ∙ where_right ∙ behind_none at.items (length (items_in left)) (length (items_in right)) none ∙ ap (span at.items) (sym (length-append (items_in left) (items_in right))) ∙ ap (λ xs. span at.items (length xs)) (sym is)) nest good
+    stepped_tree kind shape here is spine where_right legal (Walked.tree t some e all nest good) (Walked.empty gone f) =
         Walked.tree t (subst (λ xs. 1 ≤ length xs) (sym is) (omega (arith, length-append (items_in left) (items_in right), some))) (spine ∙ ap₂ (stepped kind) e f)
-        (all ∙ before_none at.items (length (items_in left)) (length (items_in right)) gone ∙ ap (span at.items) (sym (length-append (items_in left) (items_in right))) ∙ ap (λ xs. span at.items (length xs)) (sym is)) good
-    stepped_tree kind shape here is spine where_right legal (Walked.tree t some e all good) (Walked.tree u more f rest fine) =
+        (all ∙ before_none at.items (length (items_in left)) (length (items_in right)) gone ∙ ap (span at.items) (sym (length-append (items_in left) (items_in right))) ∙ ap (λ xs. span at.items (length xs)) (sym is)) nest good
+    stepped_tree kind shape here is spine where_right legal (Walked.tree t some e all nest good) (Walked.tree u more f rest below fine) =
         Walked.tree (Join Nest kind t u) (subst (λ xs. 1 ≤ length xs) (sym is) (omega (arith, length-append (items_in left) (items_in right), some))) (spine ∙ ap₂ (stepped kind) e f)
         (ap₂ bit_or all (rest ∙ where_right) ∙ same ∙ ap (λ xs. span at.items (length xs)) (sym is))
+        (refl, nest, below)
         (subst (λ n. IsLegalStep (problem_in items block) n (set_of u) kind) (sym all) (subst (λ n. IsLegalStep (problem_in items block) (items_at at left) n kind) (sym (rest ∙ where_right)) (legal some more)), tt, good, fine)
 
   -- ---- each shape
@@ -189,11 +192,11 @@ module _ (items : List Item) (block : Outline) (set : ℕ) (laid : Laid block se
 
   again : (shape : Shape) (conds : List Expr) (at : Place) → Walked shape at → Walked (filtered shape conds) at
   again shape conds at (Walked.empty none e) = Walked.empty none e
-  again shape conds at (Walked.tree t some e all good) = Walked.tree t some e all good
+  again shape conds at (Walked.tree t some e all nest good) = Walked.tree t some e all nest good
 
   pub walked : (shape : Shape) (at : Place) → IsRooted shape → Within (items_at at shape) set → StageAt shape at → Walked shape at
   walked nothing at r w stage = Walked.empty refl refl
-  walked (item t) at r w stage = Walked.tree (Scan at.items) (omega arith) refl (one_item at.items) (bound at.items (w at.items ((has_span at.items 1 at.items).1 (omega arith, omega arith))))
+  walked (item t) at r w stage = Walked.tree (Scan at.items) (omega arith) refl (one_item at.items) tt (bound at.items (w at.items ((has_span at.items 1 at.items).1 (omega arith, omega arith))))
   walked (filtered shape conds) at r w stage = again shape conds at (walked shape at r w stage)
   walked (beside left right) at r w stage =
       stepped_tree left right at Inner (beside left right) (behind left at) refl refl refl (inner left right at r.0 r.1 stage)
@@ -221,9 +224,15 @@ module _ (query : Query) (items : List Item) (block : IsBlock query) (are : AreI
     others = λ s h. inl h;
   }
 
-  of_walked : Walked items (outline_of query) (span 0 (length (outline_of query).rels)) (laid query block) bound (block_shape query) top → (tree : Tree) × (spine query ≡ Some tree) × IsPlan (problem_of items query) tree
+  of_walked : Walked items (outline_of query) (span 0 (length (outline_of query).rels)) (laid query block) bound (block_shape query) top → (tree : Tree) × (spine query ≡ Some tree) × IsPlan (problem_of items query) tree × IsNested tree
   of_walked (Walked.empty none e) = let some = (rooted query block).some in absurd (omega (arith, none, some))
-  of_walked (Walked.tree t some e all good) = (t, e, record { legal = good; whole = all ∙ all_items ∙ ap (span 0) (sym as_many) })
+  of_walked (Walked.tree t some e all nest good) = (t, e, record { legal = good; whole = all ∙ all_items ∙ ap (span 0) (sym as_many) }, nest)
+
+  spine_found : (tree : Tree) × (spine query ≡ Some tree) × IsPlan (problem_of items query) tree × IsNested tree
+  spine_found = of_walked (walked items (outline_of query) (span 0 (length (outline_of query).rels)) (laid query block) bound (block_shape query) top (rooted query block).rooted (λ i h. subst (λ n. Has n i) all_items h) whole_stage)
 
   pub spine_is_plan : (tree : Tree) × (spine query ≡ Some tree) × IsPlan (problem_of items query) tree
-  spine_is_plan = of_walked (walked items (outline_of query) (span 0 (length (outline_of query).rels)) (laid query block) bound (block_shape query) top (rooted query block).rooted (λ i h. subst (λ n. Has n i) all_items h) whole_stage)
+  spine_is_plan = let found = spine_found in (found.0, found.1, found.2)
+
+  pub spine_is_plan_with_classes : (tree : Tree) × (spine query ≡ Some tree) × IsPlan (derived (problem_of items query)) tree
+  spine_is_plan_with_classes = let found = spine_found in (found.0, found.1, plan_still (problem_of items query) found.0 found.3 found.2)

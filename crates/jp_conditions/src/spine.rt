@@ -1,11 +1,16 @@
 ghost use Rattle.std.specs.Prelude.{◌≡◌, List, Some};
 ghost use Rattle.jp_query.specs.declared.Query.{Query};
 ghost use Rattle.jp_problem.specs.declared.types.Item.{Item};
+ghost use Rattle.jp_problem.specs.Classes.{derived};
 ghost use Rattle.jp_problem.specs.Made.{IsBlock};
 ghost use Rattle.jp_problem.specs.Problems.{AreItemsOf, problem_of};
 ghost use Rattle.jp_problem.specs.Trees.{Tree, IsPlan, spine};
 
-/// A law: every block has a spine, and it is a legal tree of all the block's items.
+/// A law: every block has a spine, and it is a legal tree of all the block's items, before the problem's classes are
+/// derived and with them.
 pub fn the_spine_is_a_legal_tree()
-    ensures { (query : Query) (items : List Item) → IsBlock query → AreItemsOf query items → (tree : Tree) × (spine query ≡ Some tree) × IsPlan (problem_of items query) tree }
+    ensures plain { (query : Query) (items : List Item) → IsBlock query → AreItemsOf query items →
+        (tree : Tree) × (spine query ≡ Some tree) × IsPlan (problem_of items query) tree }
+    ensures with_classes { (query : Query) (items : List Item) → IsBlock query → AreItemsOf query items →
+        (tree : Tree) × (spine query ≡ Some tree) × IsPlan (derived (problem_of items query)) tree }
 {}
