@@ -60,7 +60,7 @@ own_leaf n = record { number = n; sublinks = [] }
 abbrev Found : JoinTree → Type 0
 Found t = (n : ℕ) → In n (own_leaves t) → In (own_leaf n) (tree_leaf_set t).leaves
 
-kept_first : (l : Leaf) (start : Leaves) (list : List Leaves) → In l start.leaves → In l (fold beside start list).leaves
+pub kept_first : (l : Leaf) (start : Leaves) (list : List Leaves) → In l start.leaves → In l (fold beside start list).leaves
 kept_first l start [] h = h
 kept_first l start (a ∷ list) h = kept_first l (beside start a) list (in_append_left l start.leaves a.leaves h)
 

@@ -31,7 +31,7 @@ use Rattle.jp_conditions.proofs.Judging.{each_in, expr_leaf_set, tree_leaf_set, 
 use Rattle.jp_conditions.proofs.Laying.{known_low, one_place, Seen, joins_seen, clauses_seen, Foreign, seen, mapped_place}
 use Rattle.jp_conditions.proofs.Leaves.{HasLeaf, of_together}
 use Rattle.jp_conditions.proofs.Places.{sides_of, stands, numbered}
-use Rattle.jp_conditions.proofs.Shaping.{HasItems, has_items, own_items, among_items}
+use Rattle.jp_conditions.proofs.Shaping.{is_rooted, HasItems, has_items, own_items, among_items}
 use Rattle.jp_conditions.proofs.Sheltered.{Sheltered, told, none_inside}
 use Rattle.jp_conditions.proofs.Sighting.{Sees, SeenBy, sees, tree_seen}
 use Rattle.jp_conditions.proofs.Spans.{has_span}
@@ -89,10 +89,16 @@ module _ (query : Query) (block : IsBlock query) where
   sheltered : Sheltered (own_leaves tree) (exprs_in (shape_of tree)) (tree_leaf_set tree)
   sheltered = told tree leaf_parts.tree
 
-  pub rooted : HasItems (shape_of tree)
-  rooted =
+  pub with_leaves : is_rooted tree ≡ true
+  with_leaves =
       let parts = and_parts _ _ (sym (laws.at-Query Bool Bool Bool Bool Bool expr_rooted tree_rooted order_rooted output_rooted query_rooted query) ∙ block.typed.rooted) in
-      has_items tree (and_parts _ _ parts.1).0
+      (and_parts _ _ parts.1).0
+
+  pub leaves_told_apart : (tree_leaf_set tree).apart ≡ true
+  leaves_told_apart = leaf_parts.tree
+
+  pub rooted : HasItems (shape_of tree)
+  rooted = has_items tree with_leaves
 
   -- ---- items have relations of their own
 

@@ -95,10 +95,10 @@ of_exprs es = record {
   away = λ e n h k l. absurd k;
 }
 
-with_exprs : (xs : List ℕ) (es fs : List Expr) (a : Leaves) → (a.apart ≡ true → Sheltered xs es a) → (leaves_beside a (leaves_together (map expr_leaf_set fs))).apart ≡ true → Sheltered xs (es ++ fs) (leaves_beside a (leaves_together (map expr_leaf_set fs)))
+pub with_exprs : (xs : List ℕ) (es fs : List Expr) (a : Leaves) → (a.apart ≡ true → Sheltered xs es a) → (leaves_beside a (leaves_together (map expr_leaf_set fs))).apart ≡ true → Sheltered xs (es ++ fs) (leaves_beside a (leaves_together (map expr_leaf_set fs)))
 with_exprs xs es fs a p whole = subst (λ ns. Sheltered ns (es ++ fs) (leaves_beside a (leaves_together (map expr_leaf_set fs)))) (append-nil xs) (sheltered_two xs [] es fs a (leaves_together (map expr_leaf_set fs)) p (λ e. of_exprs fs) whole)
 
-fewer_exprs : (xs : List ℕ) (es : List Expr) (all : Leaves) → Sheltered xs es all → Sheltered xs [] all
+pub fewer_exprs : (xs : List ℕ) (es : List Expr) (all : Leaves) → Sheltered xs es all → Sheltered xs [] all
 fewer_exprs xs es all s = record { distinct = s.distinct; found = s.found; inner = λ e n h l. absurd h; away = λ e n h k l. absurd h }
 
 one_leaf : (rel : ℕ) → Sheltered (rel ∷ []) [] (leaf rel)
@@ -107,7 +107,7 @@ one_leaf rel = record { distinct = (λ h. absurd h, tt); found = λ n h. in_map 
 one_leaf_over : (rel : ℕ) (inside : Leaves) → Sheltered (rel ∷ []) [] (leaves_beside (leaf rel) inside)
 one_leaf_over rel inside = record { distinct = (λ h. absurd h, tt); found = λ n h. in_append_left (own_leaf n) (leaf rel).leaves inside.leaves (in_map own_leaf n (rel ∷ []) h); inner = λ e n h l. absurd h; away = λ e n h k l. absurd h }
 
-nothing_yet : Sheltered [] [] no_leaves
+pub nothing_yet : Sheltered [] [] no_leaves
 nothing_yet = record { distinct = tt; found = λ n h. absurd h; inner = λ e n h l. absurd h; away = λ e n h k l. absurd h }
 
 -- ---- trees

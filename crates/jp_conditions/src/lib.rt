@@ -5,7 +5,9 @@
 #![tactic(auto)]
 
 mod conditions;
+mod few_items;
 mod spine;
 
 pub use conditions::a_block_meets_the_conditions;
+pub use few_items::a_block_has_few_items;
 pub use spine::the_spine_is_a_legal_tree;
