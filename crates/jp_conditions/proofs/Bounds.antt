@@ -6,7 +6,8 @@ use Rattle.jp_base.specs.Sets.{Within}
 use Rattle.jp_base.proofs.SetLemmas.{has_and}
 use Rattle.jp_base.proofs.MaskAlgebra.{left_within, right_within, both_within}
 use Rattle.jp_facts.proofs.Members.{In, in_map, from_map, from_append}
-use Rattle.jp_query.specs.Typing.{are_conditions, type_of}
+use Rattle.jp_base.specs.declared.values.Ty.TheVariants as ty
+use Rattle.jp_query.specs.Typing.{is_of, are_conditions, type_of}
 use Rattle.jp_problem.specs.declared.types.Outline.{Outline}
 use Rattle.jp_problem.specs.declared.types.Placed.{Placed}
 use Rattle.jp_problem.specs.declared.types.Rule.{Rule}
@@ -39,6 +40,7 @@ pub record Laid (block : Outline) (set : ℕ) : Type 0 where
   pub typed : (w : Written) → In w block.joins → are_conditions (map type_of w.on) ≡ true
   pub clauses : (c : Placed) → In c block.clauses → LiesInRegion set (map sides_of block.joins) c.region c.uses
   pub uses_of_expr : (c : Placed) → In c block.clauses → c.uses ≡ used block.rels c.expr
+  pub typed_clauses : (c : Placed) → In c block.clauses → is_of ty.Boolean (type_of c.expr) ≡ true
 
 -- the items of a join as it is written
 abbrev pub written_items : Special → ℕ

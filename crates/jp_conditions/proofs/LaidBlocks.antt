@@ -144,7 +144,7 @@ module _ (query : Query) (block : IsBlock query) where
   block_seen =
       let c = down knows_columns block.typed.columns in
       let d = down knows_placeholders block.typed.placeholders in
-      seen items one (block_shape query) top (λ k t e. subst (λ n. slice_get items n ≡ Some t) (omega arith) e) (tree_by, conds_by conds (λ e m. m) c.conds d.conds)
+      seen items one (block_shape query) top (λ k t e. subst (λ n. slice_get items n ≡ Some t) (omega arith) e) (tree_by, conds_by conds (λ e m. m) c.conds d.conds, typed_parts.1)
 
   -- ---- the outline
 
@@ -170,6 +170,7 @@ module _ (query : Query) (block : IsBlock query) where
     uses_of_on = λ w h. (joins_seen (item_rels (block_shape query)) (block_shape query) top block_seen w h).uses_of_on;
     typed = λ w h. (joins_seen (item_rels (block_shape query)) (block_shape query) top block_seen w h).typed;
     clauses = clause_lies;
+    typed_clauses = λ c h. (clauses_seen (item_rels (block_shape query)) (block_shape query) top block_seen c h).typed;
     uses_of_expr = λ c h. (clauses_seen (item_rels (block_shape query)) (block_shape query) top block_seen c h).uses_of_expr;
   }
 

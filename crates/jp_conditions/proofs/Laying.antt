@@ -109,7 +109,7 @@ module _ (rels : List ℕ) where
   Seen nothing at = Unit {0}
   Seen (item tree) at = Unit {0}
   Seen (beside left right) at = Seen left at × Seen right (behind left at)
-  Seen (filtered shape conds) at = Seen shape at × Each (λ e. Within (used rels e) (items_at at shape)) conds
+  Seen (filtered shape conds) at = Seen shape at × Each (λ e. Within (used rels e) (items_at at shape)) conds × (are_conditions (map type_of conds) ≡ true)
   Seen (special kind left right on) at =
       Seen left at × Seen right (in_right_side left right at) × Each (λ e. Within (used rels e) (bit_or (items_at at left) (items_at (behind left at) right))) on × (are_conditions (map type_of on) ≡ true)
 
@@ -153,6 +153,7 @@ module _ (rels : List ℕ) where
   -- the clause stands in the region of the whole part and uses its items, or in that of a join inside
   pub record ClauseFacts (shape : Shape) (at : Place) (c : Placed) : Type 0 where
     pub uses_of_expr : c.uses ≡ used rels c.expr
+    pub typed : is_of ty.Boolean (type_of c.expr) ≡ true
     pub lies : ((c.region ≡ at.region) × Within c.uses (items_at at shape)) ⊎ ((w : Written) × In w (joins_at rels shape at) × (w.no ≡ c.region) × Within c.uses w.syn_right)
 
   pub left_items : (left right : Shape) (at : Place) → Within (items_at at left) (span at.items (length (items_in left ++ items_in right)))
@@ -161,25 +162,33 @@ module _ (rels : List ℕ) where
   pub right_items : (left right : Shape) (at : Place) → Within (items_at (behind left at) right) (span at.items (length (items_in left ++ items_in right)))
   right_items left right at = subst (Within (items_at (behind left at) right)) (items_beside at.items left right) (in_right (items_at at left) (items_at (behind left at) right))
 
-  placed_here : (region set : ℕ) (es : List Expr) (c : Placed) → ((e : Expr) → In e es → Within (used rels e) set) → In c (map (placed_in rels region) es) → (c.region ≡ region) × Within c.uses set × (c.uses ≡ used rels c.expr)
+  condition_at : (es : List Expr) (e : Expr) → are_conditions (map type_of es) ≡ true → In e es → is_of ty.Boolean (type_of e) ≡ true
+  condition_at [] e h m = absurd m
+  condition_at (x ∷ es) e h (inl same) = subst (λ y. is_of ty.Boolean (type_of y) ≡ true) same (and_parts (is_of ty.Boolean (type_of x)) (are_conditions (map type_of es)) h).0
+  condition_at (x ∷ es) e h (inr m) = condition_at es e (and_parts (is_of ty.Boolean (type_of x)) (are_conditions (map type_of es)) h).1 m
+
+  placed_here : (region set : ℕ) (es : List Expr) (c : Placed) → ((e : Expr) → In e es → Within (used rels e) set × (is_of ty.Boolean (type_of e) ≡ true)) → In c (map (placed_in rels region) es) → (c.region ≡ region) × Within c.uses set × (c.uses ≡ used rels c.expr) × (is_of ty.Boolean (type_of c.expr) ≡ true)
   placed_here region set es c each h =
       let found = from_map (placed_in rels region) c es h in
-      subst (λ (p : Placed). (p.region ≡ region) × Within p.uses set × (p.uses ≡ used rels p.expr)) found.2 (refl, each found.0 found.1, refl)
+      let facts = each found.0 found.1 in
+      subst (λ (p : Placed). (p.region ≡ region) × Within p.uses set × (p.uses ≡ used rels p.expr) × (is_of ty.Boolean (type_of p.expr) ≡ true)) found.2 (refl, facts.0, refl, facts.1)
 
   pub clauses_seen : (shape : Shape) (at : Place) → Seen shape at → (c : Placed) → In c (clauses_at rels shape at) → ClauseFacts shape at c
   clauses_seen nothing at s c h = absurd h
   clauses_seen (item tree) at s c h = absurd h
   clauses_seen (filtered shape conds) at s c h = elim (from_append c (clauses_at rels shape at) (map (placed_in rels at.region) conds) h) [
-    | inl k ↦ (let f = clauses_seen shape at s.0 c k in record { uses_of_expr = f.uses_of_expr; lies = f.lies })
-    | inr k ↦ (let p = placed_here at.region (items_at at shape) conds c (λ e m. each_in (λ x. Within (used rels x) (items_at at shape)) conds e s.1 m) k in record { uses_of_expr = p.2; lies = inl (p.0, p.1) })
+    | inl k ↦ (let f = clauses_seen shape at s.0 c k in record { uses_of_expr = f.uses_of_expr; typed = f.typed; lies = f.lies })
+    | inr k ↦ (let p = placed_here at.region (items_at at shape) conds c (λ e m. (each_in (λ x. Within (used rels x) (items_at at shape)) conds e s.1 m, condition_at conds e s.2 m)) k in record { uses_of_expr = p.2; typed = p.3; lies = inl (p.0, p.1) })
   ]
   clauses_seen (beside left right) at s c h = elim (from_append c (clauses_at rels left at) (clauses_at rels right (behind left at)) h) [
     | inl k ↦ (let f = clauses_seen left at s.0 c k in record {
       uses_of_expr = f.uses_of_expr;
+      typed = f.typed;
       lies = elim f.lies [ inl p ↦ inl (p.0, λ i m. left_items left right at i (p.1 i m)) | inr p ↦ inr (p.0, in_append_left p.0 (joins_at rels left at) (joins_at rels right (behind left at)) p.1, p.2, p.3) ];
     })
     | inr k ↦ (let f = clauses_seen right (behind left at) s.1 c k in record {
       uses_of_expr = f.uses_of_expr;
+      typed = f.typed;
       lies = elim f.lies [ inl p ↦ inl (p.0, λ i m. right_items left right at i (p.1 i m)) | inr p ↦ inr (p.0, in_append_right p.0 (joins_at rels left at) (joins_at rels right (behind left at)) p.1, p.2, p.3) ];
     })
   ]
@@ -189,15 +198,17 @@ module _ (rels : List ℕ) where
       let inner = joins_at rels left at ++ joins_at rels right here in
       let mine = is_clause_of_side rels (items_at (behind left at) right) in
       elim (from_append c (clauses_at rels left at ++ clauses_at rels right here) (map (placed_in rels (number_of left right at)) (filter mine on)) h) [
-        | inr k ↦ (let p = placed_here (number_of left right at) (items_at (behind left at) right) (filter mine on) c (λ e m. (is_within_says (used rels e) (items_at (behind left at) right)).0 (and_parts (not (is_empty (used rels e))) (is_within (used rels e) (items_at (behind left at) right)) (from_filter mine e on m).0).1) k in
-            record { uses_of_expr = p.2; lies = inr (this, in_append_right this inner (this ∷ []) (inl refl), sym p.0, p.1) })
+        | inr k ↦ (let p = placed_here (number_of left right at) (items_at (behind left at) right) (filter mine on) c (λ e m. ((is_within_says (used rels e) (items_at (behind left at) right)).0 (and_parts (not (is_empty (used rels e))) (is_within (used rels e) (items_at (behind left at) right)) (from_filter mine e on m).0).1, condition_at on e s.3 (from_filter mine e on m).1)) k in
+            record { uses_of_expr = p.2; typed = p.3; lies = inr (this, in_append_right this inner (this ∷ []) (inl refl), sym p.0, p.1) })
         | inl k ↦ elim (from_append c (clauses_at rels left at) (clauses_at rels right here) k) [
           | inl m ↦ (let f = clauses_seen left at s.0 c m in record {
             uses_of_expr = f.uses_of_expr;
+      typed = f.typed;
             lies = elim f.lies [ inl p ↦ inl (p.0, λ i q. left_items left right at i (p.1 i q)) | inr p ↦ inr (p.0, in_append_left p.0 inner (this ∷ []) (in_append_left p.0 (joins_at rels left at) (joins_at rels right here) p.1), p.2, p.3) ];
           })
           | inr m ↦ (let f = clauses_seen right here s.1 c m in record {
             uses_of_expr = f.uses_of_expr;
+      typed = f.typed;
             lies = elim f.lies [ inl p ↦ inr (this, in_append_right this inner (this ∷ []) (inl refl), sym p.0, p.1) | inr p ↦ inr (p.0, in_append_left p.0 inner (this ∷ []) (in_append_right p.0 (joins_at rels left at) (joins_at rels right here) p.1), p.2, p.3) ];
           })
         ]
@@ -241,7 +252,7 @@ module _ (all : List JoinTree) (one : (j k : ℕ) (t u : JoinTree) (rel : ℕ) �
   seen nothing at part s = tt
   seen (item tree) at part s = tt
   seen (beside left right) at part s = (seen left at (first_part at.items (items_in left) (items_in right) part) s.0, seen right (behind left at) (second_part at.items (items_in left) (items_in right) part) s.1)
-  seen (filtered shape conds) at part s = (seen shape at part s.0, each_weaker (Sees Foreign shape) (λ e. Within (used (map known_rels all) e) (items_at at shape)) (λ e h. used_here shape at e part h) conds s.1)
+  seen (filtered shape conds) at part s = (seen shape at part s.0, each_weaker (Sees Foreign shape) (λ e. Within (used (map known_rels all) e) (items_at at shape)) (λ e h. used_here shape at e part h) conds s.1, s.2)
   seen (special kind left right on) at part s = (
     seen left at (first_part at.items (items_in left) (items_in right) part) s.0,
     seen right (in_right_side left right at) (second_part at.items (items_in left) (items_in right) part) s.1,

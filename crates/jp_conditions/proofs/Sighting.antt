@@ -37,7 +37,7 @@ module _ (Foreign : ℕ → Type 0) where
   SeenBy nothing = Unit {0}
   SeenBy (item tree) = Unit {0}
   SeenBy (beside left right) = SeenBy left × SeenBy right
-  SeenBy (filtered shape conds) = SeenBy shape × Each (Sees shape) conds
+  SeenBy (filtered shape conds) = SeenBy shape × Each (Sees shape) conds × (are_conditions (map type_of conds) ≡ true)
   SeenBy (special kind left right on) = SeenBy left × SeenBy right × Each (Sees (beside left right)) on × (are_conditions (map type_of on) ≡ true)
 
 module _ (schema : Schema) (outer : Scope) (Foreign : ℕ → Type 0) (outside : (rel : ℕ) → InEntries outer rel → Foreign rel) where
@@ -115,7 +115,7 @@ module _ (schema : Schema) (outer : Scope) (Foreign : ℕ → Type 0) (outside :
 
     of_kind : (kind : JoinKind) → Fine (tree.Join kind left right on) → Hidden (exprs_in (joined kind (tree.Join kind left right on) (shape_of left) (shape_of right) on)) → SeenBy Foreign (joined kind (tree.Join kind left right on) (shape_of left) (shape_of right) on)
     of_kind join.Full fine hidden = tt
-    of_kind join.Inner fine hidden = let s = sided join.Inner fine hidden in ((s.in_left, s.in_right), s.above)
+    of_kind join.Inner fine hidden = let s = sided join.Inner fine hidden in ((s.in_left, s.in_right), s.above, s.conds)
     of_kind join.Left fine hidden = let s = sided join.Left fine hidden in (s.in_left, s.in_right, s.above, s.conds)
     of_kind join.Right fine hidden = let s = sided join.Right fine hidden in (s.in_left, s.in_right, s.above, s.conds)
     of_kind join.Semi fine hidden = let s = sided join.Semi fine hidden in (s.in_left, s.in_right, s.above, s.conds)
@@ -141,6 +141,7 @@ module _ (schema : Schema) (outer : Scope) (Foreign : ℕ → Type 0) (outside :
       subst (SeenBy Foreign) (sym (at_from members conds)) (
         members_told members nothing each c.sides d.sides t.0 (λ e rel m l. inner e rel (in_append_left e (exprs_in shape) conds m) l) (λ none. tt),
         all_see shape members conds (of_member members) c.conds d.conds (λ e rel m l. inner e rel (in_append_right e (exprs_in shape) conds m) l),
+        t.1,
       )
 
   told : (t : JoinTree) → Told t
