@@ -53,7 +53,7 @@ pub data Comes (rels : List ℕ) (u t : Special) : Type 0 where
   first : Takes u.min_left t → Comes rels u t
   void : u.kind ≡ join.Left → IsVoidIn rels u.on t.min_right → Comes rels u t
 
-module _ (block : Outline) (set : ℕ) (laid : Laid block set) (low : (k r : ℕ) → slice_get block.rels k ≡ Some r → (i : ℕ) → Has r i → i < 64) where
+module _ (block : Outline) (set : ℕ) (laid : Laid block set) where
   pub typed_on : (s : Special) → In s (specials_in block) → are_conditions (map type_of s.on) ≡ true
   typed_on s h = let f = from block set laid s h in subst (λ (t : Special). are_conditions (map type_of t.on) ≡ true) (sym f.is) (laid.typed f.written f.stands)
 
@@ -61,19 +61,20 @@ module _ (block : Outline) (set : ℕ) (laid : Laid block set) (low : (k r : ℕ
   on_inside s h = let f = from block set laid s h in
       subst (λ (t : Special). Within (used_by block.rels t.on) (written_items t)) (sym f.is) (subst (λ n. Within n (bit_or f.written.syn_left f.written.syn_right)) (laid.uses_of_on f.written f.stands) (laid.uses f.written f.stands))
 
+module _ (block : Outline) (set : ℕ) (laid : Laid block set) (low : (k r : ℕ) → slice_get block.rels k ≡ Some r → (i : ℕ) → Has r i → i < 64) where
   spared : (u t : Special) → In u (specials_in block) → Spares block.rels u t → Comes block.rels u t
-  spared u t h e = Comes.void (left_kind u.kind e.0) (void_by block.rels u.on t.min_right (rels_at block.rels t.min_right) (typed_on u h) e.1 (λ i m. m))
+  spared u t h e = Comes.void (left_kind u.kind e.0) (void_by block.rels u.on t.min_right (rels_at block.rels t.min_right) (typed_on block set laid u h) e.1 (λ i m. m))
 
   -- an anchor outside the side in which u stands is an item that the ON list of u doesn't speak of
-  never_true : (u : Special) (k r set : ℕ) → In u (specials_in block) → slice_get block.rels k ≡ Some r → ¬ Has (written_items u) k → rejects (relations r) u.on ≡ true → IsVoidIn block.rels u.on set
-  never_true u k r set h at outside e = void_by block.rels u.on set 0 (typed_on u h) (sym (rejects_anyway r (low k r at) u.on away) ∙ e) (λ i m. absurd (has_none i m))
+  never_true : (u : Special) (k r there : ℕ) → In u (specials_in block) → slice_get block.rels k ≡ Some r → ¬ Has (written_items u) k → rejects (relations r) u.on ≡ true → IsVoidIn block.rels u.on there
+  never_true u k r there h at outside e = void_by block.rels u.on there 0 (typed_on block set laid u h) (sym (rejects_anyway r (low k r at) u.on away) ∙ e) (λ i m. absurd (has_none i m))
     where
       away : (x : Expr) → In x u.on → Apart r (refs_of x)
-      away x m meets = outside (on_inside u h k (used_member block.rels u.on x m k (items_have block.rels (refs_of x) k (r, at, meets))))
+      away x m meets = outside (on_inside block set laid u h k (used_member block.rels u.on x m k (items_have block.rels (refs_of x) k (r, at, meets))))
 
   anchored : (u t : Special) → In u (specials_in block) → is_left u.kind ≡ true → Within (written_items u) t.syn_right → Anchored block.rels t.syn_right t.min_right u → Comes block.rels u t
   anchored u t h kind w a = Comes.void (left_kind u.kind kind) (elim (cases_eq (bit_at t.syn_right a.0) 1) [
-    | inl here ↦ void_by block.rels u.on t.min_right a.1 (typed_on u h) a.4 (rels_of_set block.rels t.min_right a.0 a.1 a.2 (a.3 here))
+    | inl here ↦ void_by block.rels u.on t.min_right a.1 (typed_on block set laid u h) a.4 (rels_of_set block.rels t.min_right a.0 a.1 a.2 (a.3 here))
     | inr away ↦ never_true u a.0 a.1 t.min_right h a.2 (λ m. away (w a.0 m)) a.4
   ])
 

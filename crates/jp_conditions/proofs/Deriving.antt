@@ -1,13 +1,13 @@
 -- The clauses that follow from the classes of a region, and the constants that are carried into joins, need what the
 -- conditions ask.
-use Rattle.std.proofs.Common.{◌≡◌, sym, subst, refl, ℕ, ◌⊎◌, inl, inr, Bool, true, false, not, ◌&&◌, List, [], ◌∷◌, ◌++◌, map, filter, length, eqb-true, Option, Some, None}
+use Rattle.std.proofs.Common.{ap, ◌∙◌, ◌≡◌, sym, subst, refl, ℕ, ◌⊎◌, inl, inr, Bool, true, false, not, ◌&&◌, List, [], ◌∷◌, ◌++◌, map, filter, length, eqb-true, Option, Some, None}
 use Rattle.std.specs.Prelude.{bit_or, fold, ◌==◌, max, min, Contains, if◌then◌else◌}
 use Rattle.std.specs.List.{flat_map, list_any}
-use Rattle.std.proofs.lemmas.Bool.{and_parts}
+use Rattle.std.proofs.lemmas.Bool.{not-true, and_parts}
 use Rattle.jp_base.specs.Sets.{Within, Meets, IsEmpty}
 use Rattle.jp_base.proofs.SetLemmas.{has_or}
 use Rattle.jp_base.proofs.MaskAlgebra.{in_left, in_right, left_within, right_within, both_within}
-use Rattle.jp_facts.proofs.Members.{In, from_append, from_map, from_filter, from_flat_map, to_in, from_in}
+use Rattle.jp_facts.proofs.Members.{In, from_append, from_map, from_filter, from_flat_map, from_any, to_in, from_in}
 use Rattle.jp_query.specs.declared.Expr.{Expr}
 use Rattle.jp_problem.specs.declared.types.Class.{Class}
 use Rattle.jp_problem.specs.declared.types.Clause.{Clause}
@@ -16,7 +16,7 @@ use Rattle.jp_problem.specs.declared.types.Special.{Special}
 use Rattle.jp_problem.specs.Blocks.{used, used_by}
 use Rattle.jp_problem.specs.Classes.{Grouped, is_entry_of, with_expr, group_of, moved, with_equality, is_constant, is_constant_of, is_in_group, is_absorbed, absorb_sides, absorb, is_clause_in, groups_of, firsts_from, grouped_expr, head_of, is_member_of, member_of, class_of, classes_of, new_clause, with_member, to_constant, equalities_from, equalities_of, is_no_clause_yet, derived_from, is_member, constant_with, lies_in, carried_to, carried_by, turned, carried_sides, carried_member, carried_into, is_join_in, carried_from, Derived, with_region}
 use Rattle.jp_problem.specs.Closure.{IsClosedUnder}
-use Rattle.jp_problem.specs.Equalities.{Sides, sides_of, equals}
+use Rattle.jp_problem.specs.Equalities.{Sides, sides_of, equals, has_sublink}
 use Rattle.jp_problem.specs.Legal.{IsInside}
 use Rattle.jp_problem.specs.MinimumSets.{stands_in, taken_by_right, taken_in_side, requirement, clause_needs, specials_in}
 use Rattle.jp_problem.specs.Problems.{region_items}
@@ -24,7 +24,14 @@ use Rattle.jp_problem.specs.Sets.{is_within, is_empty, or_if_empty, span}
 use Rattle.jp_problem.proofs.SetTests.{is_within_says, is_empty_says, not_empty_says}
 use Rattle.jp_conditions.proofs.Bounds.{Laid, written_items, one_join, stands_at}
 use Rattle.jp_conditions.proofs.Closures.{holds_seed, closed_at, least_of, each_rule, rule_of}
-use Rattle.jp_conditions.proofs.Equal.{sides_use, equals_hold, equals_uses}
+use Rattle.jp_conditions.proofs.Covering.{typed_on}
+use Rattle.jp_conditions.proofs.Laying.{condition_at}
+use Rattle.jp_conditions.proofs.GroupTypes.{Kinds, no_kinds, equality_kinds}
+use Rattle.jp_conditions.proofs.WithoutSublinks.{plain_same}
+use Rattle.jp_base.specs.declared.values.Ty.{Ty}
+use Rattle.jp_base.specs.declared.values.Ty.TheVariants as ty
+use Rattle.jp_query.specs.Typing.{is_of, type_of}
+use Rattle.jp_conditions.proofs.Equal.{Compared, compared, comparable, sides_use, equals_hold, equals_uses}
 use Rattle.jp_conditions.proofs.Items.{used_member}
 use Rattle.jp_conditions.proofs.Meeting.{region_side}
 use Rattle.jp_conditions.proofs.Nesting.{captured, inner_held, join_at, not_in_itself}
@@ -61,6 +68,7 @@ module _ (block : Outline) (laid : Laid block (span 0 (length block.rels))) wher
     pub region : (c.region ≡ 0) ⊎ ((r : Special) × In r joins × (r.no ≡ c.region))
     pub needed : Needed c.region c.req
     pub uses : Within (used rels c.expr) c.req
+    pub typed : is_of ty.Boolean (type_of c.expr) ≡ true
 
   -- ---- standing under a region, and standing among its items
 
@@ -160,10 +168,37 @@ module _ (block : Outline) (laid : Laid block (span 0 (length block.rels))) wher
     all_absorbed [] groups sub each = each
     all_absorbed (c ∷ ds) groups sub each = all_absorbed ds (absorb rels groups c) (λ d m. sub d (inr m)) (absorbed groups c (sub c (inl refl)).0 (sub c (inl refl)).1 each)
 
+    -- the groups have types, as each clause is typed
+    module _ (typed : (c : Clause) → In c cs → is_of ty.Boolean (type_of c.expr) ≡ true) where
+      absorbed_kinds : (groups : List Grouped) (c : Clause) → In c cs → Kinds groups → Kinds (absorb rels groups c)
+      absorbed_kinds groups c h kinds = by (sides_of c.expr) refl
+        where
+          taken_in : (sides : Sides) → sides_of c.expr ≡ Some sides → (b : Bool) → is_absorbed rels groups sides ≡ b → Kinds (if b then with_equality groups sides else groups)
+          taken_in sides found true e =
+              let first = and_parts (not (has_sublink sides.first)) _ e in
+              let second = and_parts (not (has_sublink sides.second)) _ first.1 in
+              equality_kinds groups sides kinds (compared c.expr sides found (typed c h)) (not-true (has_sublink sides.first) first.0) (not-true (has_sublink sides.second) second.0)
+          taken_in sides found false e = kinds
+
+          by : (o : Option Sides) → sides_of c.expr ≡ o → Kinds (absorb_sides rels groups o)
+          by (Some sides) found = taken_in sides found (is_absorbed rels groups sides) refl
+          by None found = kinds
+
+      all_kinds : (ds : List Clause) (groups : List Grouped) → ((c : Clause) → In c ds → In c cs) → Kinds groups → Kinds (fold (absorb rels) groups ds)
+      all_kinds [] groups sub kinds = kinds
+      all_kinds (c ∷ ds) groups sub kinds = all_kinds ds (absorb rels groups c) (λ d m. sub d (inr m)) (absorbed_kinds groups c (sub c (inl refl)) kinds)
+
+      kinds_of : Kinds (groups_of rels cs region)
+      kinds_of = all_kinds (filter (is_clause_in region) cs) [] (λ c h. (from_filter (is_clause_in region) c cs h).1) no_kinds
+
     grown : Each (groups_of rels cs region)
     grown = all_absorbed (filter (is_clause_in region) cs) [] (λ c h. let f = from_filter (is_clause_in region) c cs h in (f.1, eqb-true c.region region f.0)) (λ g h. absurd h)
 
     -- ---- classes: what each member needs, and a constant that uses nothing
+
+    -- a member or the constant of the class
+    abbrev pub Listed : Class → Expr → Type 0
+    Listed class x = ((m : Expr × ℕ) × In m class.members × (m.0 ≡ x)) ⊎ (class.constant ≡ Some x)
 
     pub record GoodMember (m : Expr × ℕ) : Type 0 where
       pub known : (region ≡ 0) ⊎ ((r : Special) × In r joins × (r.no ≡ region))
@@ -171,6 +206,9 @@ module _ (block : Outline) (laid : Laid block (span 0 (length block.rels))) wher
       pub uses : Within (used rels m.0) m.1
 
     pub record GoodClass (class : Class) : Type 0 where
+      pub kind : (x y : Expr) → Listed class x → Listed class y → type_of x ≡ type_of y
+      pub typed : (x : Expr) → Listed class x → (t : Ty) × (type_of x ≡ Some t)
+      pub plain : (m : Expr × ℕ) → In m class.members → has_sublink m.0 ≡ false
       pub region_is : class.region ≡ region
       pub constant : (k : Expr) → class.constant ≡ Some k → IsEmpty (used rels k)
       pub members : (m : Expr × ℕ) → In m class.members → GoodMember m
@@ -194,8 +232,28 @@ module _ (block : Outline) (laid : Laid block (span 0 (length block.rels))) wher
             uses = holds_seed (taken_in_side joins (side region)) (used rels g.expr);
           }
 
+      typed_clauses : (c : Clause) → In c cs → is_of ty.Boolean (type_of c.expr) ≡ true
+      typed_clauses c h = (good c h).typed
+
+      kinds : Kinds (groups_of rels cs region)
+      kinds = kinds_of typed_clauses
+
+      -- where a listed expression stands among the groups
+      origin : (group : ℕ) (x : Expr) → Listed (class_of rels joins region (side region) (groups_of rels cs region) group) x → (g : Grouped) × In g (groups_of rels cs region) × (g.group ≡ group) × (g.expr ≡ x)
+      origin group x (inl m) =
+          let found = from_map (member_of rels joins (side region)) m.0 (filter (is_member_of rels group) (groups_of rels cs region)) m.1 in
+          let facts = from_filter (is_member_of rels group) found.0 (groups_of rels cs region) found.1 in
+          (found.0, facts.1, eqb-true found.0.group group (and_parts (is_in_group group found.0) (not (is_constant rels found.0.expr)) facts.0).0, ap (λ (p : Expr × ℕ). p.0) found.2 ∙ m.2)
+      origin group x (inr e) =
+          let found = from_map grouped_expr x (filter (is_constant_of rels group) (groups_of rels cs region)) (head_in (map grouped_expr (filter (is_constant_of rels group) (groups_of rels cs region))) x e) in
+          let facts = from_filter (is_constant_of rels group) found.0 (groups_of rels cs region) found.1 in
+          (found.0, facts.1, eqb-true found.0.group group (and_parts (is_in_group group found.0) (is_constant rels found.0.expr) facts.0).0, found.2)
+
       class_good : (group : ℕ) → GoodClass (class_of rels joins region (side region) (groups_of rels cs region) group)
       class_good group = record {
+        kind = λ x y p q. let g = origin group x p in let h = origin group y q in ap type_of (sym g.3) ∙ kinds.same g.0 h.0 g.1 h.1 (g.2 ∙ sym h.2) ∙ ap type_of h.3;
+        typed = λ x p. let g = origin group x p in let t = kinds.typed g.0 g.1 in (t.0, ap type_of (sym g.3) ∙ t.1);
+        plain = λ m h. let g = origin group m.0 (inl (m, h, refl)) in ap has_sublink (sym g.3) ∙ kinds.plain g.0 g.1;
         region_is = refl;
         constant = λ k e.
             let found = from_map grouped_expr k (filter (is_constant_of rels group) (groups_of rels cs region)) (head_in (map grouped_expr (filter (is_constant_of rels group) (groups_of rels cs region))) k e) in
@@ -212,32 +270,37 @@ module _ (block : Outline) (laid : Laid block (span 0 (length block.rels))) wher
 
     -- ---- the equalities of a class
 
-    good_equality : (at : ℕ) → at ≡ region → (e : Expr) (needs : ℕ) → (region ≡ 0) ⊎ ((r : Special) × In r joins × (r.no ≡ region)) → Needed region needs → Within (used rels e) needs → Good (new_clause at needs e)
-    good_equality at same e needs known needed uses = record {
+    good_equality : (at : ℕ) → at ≡ region → (e : Expr) (needs : ℕ) → (region ≡ 0) ⊎ ((r : Special) × In r joins × (r.no ≡ region)) → Needed region needs → Within (used rels e) needs → is_of ty.Boolean (type_of e) ≡ true → Good (new_clause at needs e)
+    good_equality at same e needs known needed uses typed = record {
+      typed = typed;
       region = subst (λ n. (n ≡ 0) ⊎ ((r : Special) × In r joins × (r.no ≡ n))) (sym same) known;
       needed = subst (λ n. Needed n needs) (sym same) needed;
       uses = uses;
     }
 
     module _ (at : ℕ) (same : at ≡ region) (constant : Option Expr) (empty : (k : Expr) → constant ≡ Some k → IsEmpty (used rels k)) where
-      constant_good : (m : Expr × ℕ) → GoodMember m → (c : Clause) → In c (to_constant at constant m) → Good c
-      constant_good m good c h = by constant refl h
+      -- two expressions of one type
+      abbrev Alike : Expr → Expr → Type 0
+      Alike x y = (t : Ty) × (type_of x ≡ Some t) × (type_of y ≡ Some t)
+
+      constant_good : (m : Expr × ℕ) → GoodMember m → ((k : Expr) → constant ≡ Some k → Alike m.0 k) → (c : Clause) → In c (to_constant at constant m) → Good c
+      constant_good m good alike c h = by constant refl h
         where
           by : (o : Option Expr) → constant ≡ o → In c (to_constant at o m) → Good c
-          by (Some k) e (inl is) = subst Good is (good_equality at same (equals m.0 k) m.1 good.known good.needed (equals_uses rels m.0 k m.1 good.uses (λ i p. absurd (empty k e i p))))
+          by (Some k) e (inl is) = subst Good is (good_equality at same (equals m.0 k) m.1 good.known good.needed (equals_uses rels m.0 k m.1 good.uses (λ i p. absurd (empty k e i p))) (let a = alike k e in comparable m.0 k a.0 a.1 a.2))
           by (Some k) e (inr gone) = absurd gone
           by None e gone = absurd gone
 
-      pair_good : (m n : Expr × ℕ) → GoodMember m → GoodMember n → Good (with_member at m n)
-      pair_good m n p q = good_equality at same (equals m.0 n.0) (bit_or m.1 n.1) p.known (two_needed region m.1 n.1 p.needed q.needed) (equals_uses rels m.0 n.0 (bit_or m.1 n.1) (λ i h. in_left m.1 n.1 i (p.uses i h)) (λ i h. in_right m.1 n.1 i (q.uses i h)))
+      pair_good : (m n : Expr × ℕ) → GoodMember m → GoodMember n → Alike m.0 n.0 → Good (with_member at m n)
+      pair_good m n p q a = good_equality at same (equals m.0 n.0) (bit_or m.1 n.1) p.known (two_needed region m.1 n.1 p.needed q.needed) (equals_uses rels m.0 n.0 (bit_or m.1 n.1) (λ i h. in_left m.1 n.1 i (p.uses i h)) (λ i h. in_right m.1 n.1 i (q.uses i h))) (comparable m.0 n.0 a.0 a.1 a.2)
 
-      equalities_good : (members : List (Expr × ℕ)) → ((m : Expr × ℕ) → In m members → GoodMember m) → (c : Clause) → In c (equalities_from at constant members) → Good c
-      equalities_good [] good c h = absurd h
-      equalities_good (m ∷ members) good c h = elim (from_append c (to_constant at constant m ++ map (with_member at m) members) (equalities_from at constant members) h) [
-        | inr k ↦ equalities_good members (λ n p. good n (inr p)) c k
+      equalities_good : (members : List (Expr × ℕ)) → ((m : Expr × ℕ) → In m members → GoodMember m) → ((m n : Expr × ℕ) → In m members → In n members → Alike m.0 n.0) → ((m : Expr × ℕ) (k : Expr) → In m members → constant ≡ Some k → Alike m.0 k) → (c : Clause) → In c (equalities_from at constant members) → Good c
+      equalities_good [] good alike beside c h = absurd h
+      equalities_good (m ∷ members) good alike beside c h = elim (from_append c (to_constant at constant m ++ map (with_member at m) members) (equalities_from at constant members) h) [
+        | inr k ↦ equalities_good members (λ n p. good n (inr p)) (λ n o p q. alike n o (inr p) (inr q)) (λ n k p. beside n k (inr p)) c k
         | inl k ↦ elim (from_append c (to_constant at constant m) (map (with_member at m) members) k) [
-          | inl p ↦ constant_good m (good m (inl refl)) c p
-          | inr p ↦ (let found = from_map (with_member at m) c members p in subst Good found.2 (pair_good m found.0 (good m (inl refl)) (good found.0 (inr found.1))))
+          | inl p ↦ constant_good m (good m (inl refl)) (λ k e. beside m k (inl refl) e) c p
+          | inr p ↦ (let found = from_map (with_member at m) c members p in subst Good found.2 (pair_good m found.0 (good m (inl refl)) (good found.0 (inr found.1)) (alike m found.0 (inl refl) (inr found.1))))
         ]
       ]
 
@@ -247,21 +310,26 @@ module _ (block : Outline) (laid : Laid block (span 0 (length block.rels))) wher
         let found = from_flat_map equalities_of c classes f.1 in
         let class = found.0 in
         let g = good class found.1 in
-        equalities_good class.region g.region_is class.constant g.constant class.members g.members c found.2
+        equalities_good class.region g.region_is class.constant g.constant class.members g.members
+        (λ m n p q. let t = g.typed m.0 (inl (m, p, refl)) in (t.0, t.1, g.kind n.0 m.0 (inl (n, q, refl)) (inl (m, p, refl)) ∙ t.1))
+        (λ m k p e. let t = g.typed m.0 (inl (m, p, refl)) in (t.0, t.1, g.kind k m.0 (inr e) (inl (m, p, refl)) ∙ t.1)) c found.2
 
     -- ---- carried constants
 
-    constant_empty : (classes : List Class) → ((class : Class) → In class classes → GoodClass class) → (e k : Expr) → constant_with classes e ≡ Some k → IsEmpty (used rels k)
+    constant_empty : (classes : List Class) → ((class : Class) → In class classes → GoodClass class) → (e k : Expr) → constant_with classes e ≡ Some k → IsEmpty (used rels k) × (type_of k ≡ type_of e)
     constant_empty [] good e k found = cc
-    constant_empty (class ∷ classes) good e k found = by (list_any (is_member e) class.members) (constant_empty classes (λ d m. good d (inr m)) e k) found
+    constant_empty (class ∷ classes) good e k found = by (list_any (is_member e) class.members) refl (constant_empty classes (λ d m. good d (inr m)) e k) found
       where
-        by : (b : Bool) → (constant_with classes e ≡ Some k → IsEmpty (used rels k)) → (if b then class.constant else constant_with classes e) ≡ Some k → IsEmpty (used rels k)
-        by true later f = (good class (inl refl)).constant k f
-        by false later f = later f
+        by : (b : Bool) → list_any (is_member e) class.members ≡ b → (constant_with classes e ≡ Some k → IsEmpty (used rels k) × (type_of k ≡ type_of e)) → (if b then class.constant else constant_with classes e) ≡ Some k → IsEmpty (used rels k) × (type_of k ≡ type_of e)
+        by true h later f =
+            let g = good class (inl refl) in
+            let m = from_any (is_member e) class.members h in
+            (g.constant k f, g.kind k m.0.0 (inr f) (inl (m.0, m.1, refl)) ∙ ap type_of (plain_same m.0.0 e (g.plain m.0 m.1) m.2))
+        by false h later f = later f
 
   -- a constant for an expression of the ON list of s that uses items of its right side alone
-  carried_clause : (s : Special) (right k : Expr) → In s joins → Within (used rels right) (used_by rels s.on) → lies_in rels s.syn_right right ≡ true → IsEmpty (used rels k) → Good (new_clause s.no (clause_needs joins s.syn_right (used rels (equals right k))) (equals right k))
-  carried_clause s right k h spoken lies empty =
+  carried_clause : (s : Special) (right k : Expr) → In s joins → Within (used rels right) (used_by rels s.on) → lies_in rels s.syn_right right ≡ true → IsEmpty (used rels k) → (t : Ty) → type_of right ≡ Some t → type_of k ≡ Some t → Good (new_clause s.no (clause_needs joins s.syn_right (used rels (equals right k))) (equals right k))
+  carried_clause s right k h spoken lies empty t of_right of_k =
       let parts = and_parts (not (is_empty (used rels right))) (is_within (used rels right) s.syn_right) lies in
       let on_right = (is_within_says (used rels right) s.syn_right).0 parts.1 in
       let held : Within (used rels right) s.min_right = λ i p. (right_rules_of block all laid s h).uses i (spoken i p) (on_right i p) in
@@ -283,14 +351,15 @@ module _ (block : Outline) (laid : Laid block (span 0 (length block.rels))) wher
               (left_within t.min_left t.min_right (clause_needs joins s.syn_right (used rels (equals right k))) took, right_within t.min_left t.min_right (clause_needs joins s.syn_right (used rels (equals right k))) took);
         };
         uses = λ i p. holds_seed (taken_in_side joins s.syn_right) seed i (or_holds (used rels (equals right k)) s.syn_right i p);
+        typed = comparable right k t of_right of_k;
       }
 
-  module _ (classes : List Class) (empty : (e k : Expr) → constant_with classes e ≡ Some k → IsEmpty (used rels k)) where
-    carried_one : (s : Special) (sides : Sides) → In s joins → Within (used rels sides.second) (used_by rels s.on) → (c : Clause) → In c (carried_by rels joins classes s sides) → Good c
-    carried_one s sides h spoken c m = by (lies_in rels s.syn_left sides.first && lies_in rels s.syn_right sides.second) refl m
+  module _ (classes : List Class) (empty : (e k : Expr) → constant_with classes e ≡ Some k → IsEmpty (used rels k) × (type_of k ≡ type_of e)) where
+    carried_one : (s : Special) (sides : Sides) → In s joins → Within (used rels sides.second) (used_by rels s.on) → Compared sides.first sides.second → (c : Clause) → In c (carried_by rels joins classes s sides) → Good c
+    carried_one s sides h spoken types c m = by (lies_in rels s.syn_left sides.first && lies_in rels s.syn_right sides.second) refl m
       where
         made : (o : Option Expr) → constant_with classes sides.first ≡ o → lies_in rels s.syn_right sides.second ≡ true → In c (carried_to rels joins s sides.second o) → Good c
-        made (Some k) e lies (inl is) = subst Good is (carried_clause s sides.second k h spoken lies (empty sides.first k e))
+        made (Some k) e lies (inl is) = subst Good is (let facts = empty sides.first k e in carried_clause s sides.second k h spoken lies facts.0 types.type types.second (facts.1 ∙ types.first))
         made (Some k) e lies (inr gone) = absurd gone
         made None e lies gone = absurd gone
 
@@ -308,9 +377,10 @@ module _ (block : Outline) (laid : Laid block (span 0 (length block.rels))) wher
         by None found gone = absurd gone
         by (Some sides) found k =
             let uses = sides_use rels e sides found in
+            let types = compared e sides found (condition_at s.on e (typed_on block all laid s h) on) in
             elim (from_append c (carried_by rels joins classes s sides) (carried_by rels joins classes s (turned sides)) k) [
-              | inl p ↦ carried_one s sides h (λ i q. spoken i (uses.second i q)) c p
-              | inr p ↦ carried_one s (turned sides) h (λ i q. spoken i (uses.first i q)) c p
+              | inl p ↦ carried_one s sides h (λ i q. spoken i (uses.second i q)) types c p
+              | inr p ↦ carried_one s (turned sides) h (λ i q. spoken i (uses.first i q)) (record { type = types.type; first = types.second; second = types.first }) c p
             ]
 
     carried_good : (region : ℕ) (c : Clause) → In c (carried_from rels joins classes region) → Good c
@@ -322,18 +392,26 @@ module _ (block : Outline) (laid : Laid block (span 0 (length block.rels))) wher
 
   -- ---- region by region
 
-  region_good : (d : Derived) (region : ℕ) → ((c : Clause) → In c d.clauses → Good c) → (c : Clause) → In c (with_region rels joins d region).clauses → Good c
-  region_good d region good c h =
-      let classes = classes_of rels joins d.clauses region (side region) in
-      let each = classes_good region d.clauses good in
-      elim (from_append c (d.clauses ++ derived_from d.clauses classes) (carried_from rels joins classes region) h) [
-        | inr k ↦ carried_good classes (constant_empty region d.clauses classes each) region c k
-        | inl k ↦ elim (from_append c d.clauses (derived_from d.clauses classes) k) [
-          | inl m ↦ good c m
-          | inr m ↦ derived_good region d.clauses classes each c m
-        ]
-      ]
+  -- its clauses are good and the expressions of its classes typed
+  pub record AllGood (d : Derived) : Type 0 where
+    pub clauses : (c : Clause) → In c d.clauses → Good c
+    pub classes : (class : Class) (x : Expr) → In class d.classes → Listed 0 [] class x → (t : Ty) × (type_of x ≡ Some t)
 
-  pub regions_good : (regions : List ℕ) (d : Derived) → ((c : Clause) → In c d.clauses → Good c) → (c : Clause) → In c (fold (with_region rels joins) d regions).clauses → Good c
+  region_good : (d : Derived) (region : ℕ) → AllGood d → AllGood (with_region rels joins d region)
+  region_good d region good =
+      let classes = classes_of rels joins d.clauses region (side region) in
+      let each = classes_good region d.clauses good.clauses in
+      record {
+        clauses = λ c h. elim (from_append c (d.clauses ++ derived_from d.clauses classes) (carried_from rels joins classes region) h) [
+          | inr k ↦ carried_good classes (constant_empty region d.clauses classes each) region c k
+          | inl k ↦ elim (from_append c d.clauses (derived_from d.clauses classes) k) [
+            | inl m ↦ good.clauses c m
+            | inr m ↦ derived_good region d.clauses classes each c m
+          ]
+        ];
+        classes = λ class x h l. elim (from_append class d.classes classes h) [ inl k ↦ good.classes class x k l | inr k ↦ (each class k).typed x l ];
+      }
+
+  pub regions_good : (regions : List ℕ) (d : Derived) → AllGood d → AllGood (fold (with_region rels joins) d regions)
   regions_good [] d good = good
   regions_good (region ∷ regions) d good = regions_good regions (with_region rels joins d region) (region_good d region good)

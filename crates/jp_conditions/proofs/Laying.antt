@@ -101,6 +101,12 @@ one_place (x ∷ xs) d (suc j) zero t u n e f h m = absurd (distinct_sides n (ow
     same a b e = cc
 one_place (x ∷ xs) d (suc j) (suc k) t u n e f h m = ap suc (one_place xs (distinct_rest (own_leaves x) (all_in (map own_leaves xs)) d) j k t u n e f h m)
 
+-- each member of a list of conditions is a boolean
+pub condition_at : (es : List Expr) (e : Expr) → are_conditions (map type_of es) ≡ true → In e es → is_of ty.Boolean (type_of e) ≡ true
+condition_at [] e h m = absurd m
+condition_at (x ∷ es) e h (inl same) = subst (λ y. is_of ty.Boolean (type_of y) ≡ true) same (and_parts (is_of ty.Boolean (type_of x)) (are_conditions (map type_of es)) h).0
+condition_at (x ∷ es) e h (inr m) = condition_at es e (and_parts (is_of ty.Boolean (type_of x)) (are_conditions (map type_of es)) h).1 m
+
 -- ---- expressions at the places of a shape
 
 module _ (rels : List ℕ) where
@@ -162,11 +168,6 @@ module _ (rels : List ℕ) where
   pub right_items : (left right : Shape) (at : Place) → Within (items_at (behind left at) right) (span at.items (length (items_in left ++ items_in right)))
   right_items left right at = subst (Within (items_at (behind left at) right)) (items_beside at.items left right) (in_right (items_at at left) (items_at (behind left at) right))
 
-  condition_at : (es : List Expr) (e : Expr) → are_conditions (map type_of es) ≡ true → In e es → is_of ty.Boolean (type_of e) ≡ true
-  condition_at [] e h m = absurd m
-  condition_at (x ∷ es) e h (inl same) = subst (λ y. is_of ty.Boolean (type_of y) ≡ true) same (and_parts (is_of ty.Boolean (type_of x)) (are_conditions (map type_of es)) h).0
-  condition_at (x ∷ es) e h (inr m) = condition_at es e (and_parts (is_of ty.Boolean (type_of x)) (are_conditions (map type_of es)) h).1 m
-
   placed_here : (region set : ℕ) (es : List Expr) (c : Placed) → ((e : Expr) → In e es → Within (used rels e) set × (is_of ty.Boolean (type_of e) ≡ true)) → In c (map (placed_in rels region) es) → (c.region ≡ region) × Within c.uses set × (c.uses ≡ used rels c.expr) × (is_of ty.Boolean (type_of c.expr) ≡ true)
   placed_here region set es c each h =
       let found = from_map (placed_in rels region) c es h in
@@ -203,12 +204,12 @@ module _ (rels : List ℕ) where
         | inl k ↦ elim (from_append c (clauses_at rels left at) (clauses_at rels right here) k) [
           | inl m ↦ (let f = clauses_seen left at s.0 c m in record {
             uses_of_expr = f.uses_of_expr;
-      typed = f.typed;
+            typed = f.typed;
             lies = elim f.lies [ inl p ↦ inl (p.0, λ i q. left_items left right at i (p.1 i q)) | inr p ↦ inr (p.0, in_append_left p.0 inner (this ∷ []) (in_append_left p.0 (joins_at rels left at) (joins_at rels right here) p.1), p.2, p.3) ];
           })
           | inr m ↦ (let f = clauses_seen right here s.1 c m in record {
             uses_of_expr = f.uses_of_expr;
-      typed = f.typed;
+            typed = f.typed;
             lies = elim f.lies [ inl p ↦ inr (this, in_append_right this inner (this ∷ []) (inl refl), sym p.0, p.1) | inr p ↦ inr (p.0, in_append_left p.0 inner (this ∷ []) (in_append_right p.0 (joins_at rels left at) (joins_at rels right here) p.1), p.2, p.3) ];
           })
         ]

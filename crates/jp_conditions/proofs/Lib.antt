@@ -6,7 +6,9 @@ pub mod Covering
 pub mod Deriving
 pub mod Entering
 pub mod Equal
+pub mod Estimable
 pub mod Forms
+pub mod GroupTypes
 pub mod ItemCount
 pub mod Items
 pub mod Judging
@@ -33,3 +35,4 @@ pub mod Steps
 pub mod Untouched
 pub mod Visible
 pub mod WithClasses
+pub mod WithoutSublinks

@@ -111,7 +111,7 @@ module _ (items : List Item) (block : Outline) (same : map rels_of_item items �
   on_uses : (s : Special) (i : ℕ) → In s (specials_in block) → Has (used_by (map rels_of_item items) s.on) i → Has s.min_left i ⊎ Has s.min_right i
   on_uses s i h u =
       let here : Has (used_by block.rels s.on) i = subst (λ rels. Has (used_by rels s.on) i) same u in
-      elim ((has_or s.syn_left s.syn_right i).0 (on_inside block all laid low s h i here)) [
+      elim ((has_or s.syn_left s.syn_right i).0 (on_inside block all laid s h i here)) [
         | inl p ↦ inl ((left_of block all laid s h).uses i here p)
         | inr p ↦ inr ((right_rules_of block all laid s h).uses i here p)
       ]

@@ -1,6 +1,6 @@
 -- A block's problem meets the conditions with its classes too, and trees by Nest alone that are legal without them are legal
 -- with them.
-use Rattle.std.proofs.Common.{◌≡◌, sym, subst, ℕ, ◌<◌, inl, inr, List, [], map, fold, length, Some}
+use Rattle.std.proofs.Common.{◌≡◌, sym, subst, ℕ, ◌<◌, inl, inr, true, List, [], map, fold, length, Some}
 use Rattle.std.specs.Prelude.{Contains, slice_get}
 use Rattle.jp_base.specs.Sets.{Has, Within}
 use Rattle.jp_facts.proofs.Members.{In, to_in, from_in, from_map}
@@ -19,12 +19,14 @@ use Rattle.jp_problem.specs.Conditions.{AreTwo, Covers, MeetsConditions}
 use Rattle.jp_problem.specs.Keys.{IsAllowed}
 use Rattle.jp_problem.specs.Legal.{IsJoinable, IsLegalStep}
 use Rattle.jp_problem.specs.MinimumSets.{specials_in}
-use Rattle.jp_problem.specs.Problems.{rels_of_item, clauses_in, problem_in}
+use Rattle.jp_problem.specs.Problems.{rels_of_item, clause_of, clauses_in, problem_in}
 use Rattle.jp_problem.specs.Sets.{span}
 use Rattle.jp_problem.specs.Trees.{Tree, set_of, IsLegalTree, IsPlan}
 use Rattle.jp_problem.specs.Trees.Tree.{Scan, Join}
 use Rattle.jp_conditions.proofs.Bounds.{Laid}
-use Rattle.jp_conditions.proofs.Deriving.{Good, regions_good}
+use Rattle.jp_base.specs.declared.values.Ty.TheVariants as ty
+use Rattle.jp_query.specs.Typing.{is_of, type_of}
+use Rattle.jp_conditions.proofs.Deriving.{Good, AllGood, regions_good}
 use Rattle.jp_conditions.proofs.Meeting.{meets_conditions}
 
 module _ (items : List Item) (block : Outline) (same : map rels_of_item items ≡ block.rels) (laid : Laid block (span 0 (length block.rels))) (low : (k r : ℕ) → slice_get block.rels k ≡ Some r → (i : ℕ) → Has r i → i < 64) where
@@ -54,16 +56,17 @@ module _ (items : List Item) (block : Outline) (same : map rels_of_item items �
           closed = λ t m under met. conditions.needs_closed c t here (from_in t joins m) under met;
         };
         uses = subst (λ rels. Within (used rels c.expr) c.req) same (conditions.uses_within c here);
+        typed = (let p = from_map (clause_of block.rels joins) c block.clauses h in subst (λ (x : Clause). is_of ty.Boolean (type_of x.expr) ≡ true) p.2 (laid.typed_clauses p.0 p.1));
       }
 
-  all_good : (c : Clause) → In c end.clauses → Good block laid c
-  all_good = subst (λ rels. (c : Clause) → In c (fold (with_region rels joins) start (regions joins)).clauses → Good block laid c) (sym same) (regions_good block laid (regions joins) start first_good)
+  pub all_good : AllGood block laid end
+  all_good = subst (λ rels. AllGood block laid (fold (with_region rels joins) start (regions joins))) (sym same) (regions_good block laid (regions joins) start (record { clauses = first_good; classes = λ class x h l. absurd h }))
 
   classed : (classes : List Class) (c : Clause) → Good block laid c → Good block laid (with_class classes c)
-  classed classes c g = record { region = g.region; needed = g.needed; uses = g.uses }
+  classed classes c g = record { region = g.region; needed = g.needed; uses = g.uses; typed = g.typed }
 
-  good : (c : Clause) → Contains (derived plain).clauses c → Good block laid c
-  good c h = let f = from_map (with_class end.classes) c end.clauses (to_in c (derived plain).clauses h) in subst (Good block laid) f.2 (classed end.classes f.0 (all_good f.0 f.1))
+  pub good : (c : Clause) → Contains (derived plain).clauses c → Good block laid c
+  good c h = let f = from_map (with_class end.classes) c end.clauses (to_in c (derived plain).clauses h) in subst (Good block laid) f.2 (classed end.classes f.0 (all_good.clauses f.0 f.1))
 
   two : (s t : Special) → AreTwo (derived plain) s t → AreTwo plain s t
   two s t a = record { first = a.first; second = a.second; differ = a.differ }
