@@ -1,5 +1,6 @@
 pub mod Based
 pub mod Bounds
+pub mod Carrying
 pub mod Closures
 pub mod Counting
 pub mod Covering

@@ -26,7 +26,8 @@ use Rattle.jp_problem.specs.Trees.Tree.{Scan, Join}
 use Rattle.jp_conditions.proofs.Bounds.{Laid}
 use Rattle.jp_base.specs.declared.values.Ty.TheVariants as ty
 use Rattle.jp_query.specs.Typing.{is_of, type_of}
-use Rattle.jp_conditions.proofs.Deriving.{Good, AllGood, regions_good}
+use Rattle.jp_conditions.proofs.Carrying.{AllGood, regions_good}
+use Rattle.jp_conditions.proofs.Deriving.{Good}
 use Rattle.jp_conditions.proofs.Meeting.{meets_conditions}
 
 module _ (items : List Item) (block : Outline) (same : map rels_of_item items ≡ block.rels) (laid : Laid block (span 0 (length block.rels))) (low : (k r : ℕ) → slice_get block.rels k ≡ Some r → (i : ℕ) → Has r i → i < 64) where
