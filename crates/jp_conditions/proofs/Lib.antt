@@ -26,6 +26,7 @@ pub mod Rules
 pub mod SetForms
 pub mod Shaping
 pub mod Sheltered
+pub mod SideClauses
 pub mod Sighting
 pub mod Sources
 pub mod Spans

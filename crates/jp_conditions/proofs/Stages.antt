@@ -53,7 +53,7 @@ narrowed xs part ys a zs stage w sub within each = record {
 
 -- ---- the least item that two sets share
 
-least_found : (m n : ℕ) → ((i : ℕ) × Has m i × ((k : ℕ) → Has m k → i ≤ k)) ⊎ ((k : ℕ) → k < n → ¬ Has m k)
+pub least_found : (m n : ℕ) → ((i : ℕ) × Has m i × ((k : ℕ) → Has m k → i ≤ k)) ⊎ ((k : ℕ) → k < n → ¬ Has m k)
 least_found m zero = inr (λ k low h. absurd (omega (arith, low)))
 least_found m (suc n) = elim (least_found m n) [
   | inl f ↦ inl f

@@ -46,7 +46,7 @@ module _ (items : List Item) (block : Outline) (same : map rels_of_item items �
   conditions : MeetsConditions plain
   conditions = meets_conditions items block same laid low
 
-  first_good : (c : Clause) → In c (clauses_in block) → Good block laid c
+  pub first_good : (c : Clause) → In c (clauses_in block) → Good block laid c
   first_good c h =
       let here = from_in c (clauses_in block) h in
       record {

@@ -6,10 +6,12 @@
 
 mod conditions;
 mod few_items;
+mod regions;
 mod search;
 mod spine;
 
 pub use conditions::a_block_meets_the_conditions;
 pub use few_items::a_block_has_few_items;
+pub use regions::clauses_of_a_side_stand_in_it;
 pub use search::a_made_problem_can_be_searched;
 pub use spine::the_spine_is_a_legal_tree;
