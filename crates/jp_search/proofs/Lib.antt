@@ -1,0 +1,9 @@
+pub mod CostLaws
+pub mod CountLaws
+pub mod EntryLaws
+pub mod FirstLaws
+pub mod NumberLaws
+pub mod PartLaws
+pub mod SplitLaws
+pub mod TableLaws
+pub mod TreeLaws

@@ -1,0 +1,39 @@
+use Rattle.std.proofs.Common.{◌∙◌, sym, ap, subst, ◌<◌, length, arith}
+use Rattle.jp_problem.specs.Sets.{without}
+use Rattle.jp_search.specs.Ready.{IsSmall}
+use Rattle.jp_search.specs.Splits.{IsLeastAbove, split_of}
+use Rattle.jp_search.proofs.CountLaws.{place_below, next_place}
+use Rattle.jp_search.proofs.PartLaws.{not_zero, rest_below}
+use Rattle.jp_search.proofs.SplitLaws.{none_yet, one_more}
+use Rattle.jp_search.proofs.splits.least_split.Goals as goal
+
+pub parts-init : goal.parts-init
+parts-init g c = record {
+  within = c.below-left.ensures.within;
+  below = c.below-left.ensures.below;
+  least = none_yet c.args.problem.now c.args.table.now c.args.set c.below-left.result c.below-left.ensures;
+  steps = omega (arith, place_below (length c.args.problem.now.items) c.args.set c.below-left.result);
+}
+
+pub split-requires-clause-right_there : goal.split-requires-clause-right_there
+split-requires-clause-right_there g c =
+    let some = not_zero c.parts.left c.is_empty.result c.is_empty.ensures c.parts-test.true in
+    let less = rest_below c.args.set c.parts.left some c.parts.invariant.within in
+    omega (arith, c.without.ensures, less, c.requires.there)
+
+pub split-requires-clause-right_small : goal.split-requires-clause-right_small
+split-requires-clause-right_small g c =
+    let some = not_zero c.parts.left c.is_empty.result c.is_empty.ensures c.parts-test.true in
+    let less = rest_below c.args.set c.parts.left some c.parts.invariant.within in
+    subst (IsSmall c.args.table.now) (sym c.without.ensures) (c.requires.small (without c.args.set c.parts.left) less)
+
+pub parts-preserved : goal.parts-preserved
+parts-preserved g c =
+    let some = not_zero c.parts.left c.is_empty.result c.is_empty.ensures c.parts-test.true in
+    let next = c.below-left-in-parts in
+    record {
+      within = next.ensures.within;
+      below = omega (arith, next.ensures.below, c.parts.invariant.below);
+      least = subst (IsLeastAbove c.args.problem.now c.args.table.now c.args.set c.below-left-in-parts.result) (sym c.lesser-least.ensures) (one_more c.args.problem.now c.args.table.now c.args.set c.parts.left c.below-left-in-parts.result some c.parts.invariant.within c.parts.invariant.below next.ensures c.parts.least c.split.result c.parts.invariant.least (c.split.ensures ∙ ap (split_of c.args.problem.now c.args.table.now c.parts.left) c.without.ensures));
+      steps = omega (arith, c.count.ensures, c.parts.invariant.steps, next_place (length c.args.problem.now.items) c.args.set c.parts.left c.below-left-in-parts.result (subst (λ n. c.args.set < n) c.requires.size c.requires.there) c.parts.invariant.within c.parts.invariant.below next.ensures.within next.ensures.below);
+    }
