@@ -13,7 +13,7 @@ use Rattle.jp_cost.specs.Estimates.{estimate}
 use Rattle.jp_tree.specs.declared.pool.PlanNode.{PlanNode}
 use Rattle.jp_tree.specs.declared.pool.PlanNode.TheVariants as node
 use Rattle.jp_tree.specs.Pools.{IsTreeOf, HasChildrenBelow}
-use Rattle.jp_tree.proofs.PoolLaws.{tree_stays}
+use Rattle.jp_tree.proofs.PoolLaws.{tree_stays, named_below}
 use Rattle.jp_search.specs.declared.table.Choice.{Choice}
 use Rattle.jp_search.specs.declared.table.Found.{Found}
 use Rattle.jp_search.specs.Entries.{IsEntry, Knows}
@@ -46,10 +46,6 @@ pushed nodes (node.Scan i) t is = subst (IsTreeOf (nodes ++ node.Scan i ∷ []) 
 pushed nodes (node.Join m k l r) t (a, b, on_a, on_b, is) =
     subst (IsTreeOf (nodes ++ node.Join m k l r ∷ []) (length nodes)) (sym is)
     (l, r, last_is nodes (node.Join m k l r), tree_stays nodes (node.Join m k l r ∷ []) l a on_a, tree_stays nodes (node.Join m k l r ∷ []) r b on_b)
-
-named_below : (nodes : List PlanNode) (id : ℕ) (t : Tree) → IsTreeOf nodes id t → id < length nodes
-named_below nodes id (Scan i) e = slice_get_within nodes id (node.Scan i) e
-named_below nodes id (Join m k a b) (l, r, e, on_a, on_b) = slice_get_within nodes id (node.Join m k l r) e
 
 pub children_below : (nodes : List PlanNode) (node : PlanNode) (t : Tree) → IsTreeBy nodes node t → HasChildrenBelow (length nodes) node
 children_below nodes (node.Scan i) t is = tt

@@ -15,14 +15,14 @@ use Rattle.jp_problem.specs.Sets.{span}
 use Rattle.jp_problem.specs.Trees.{Tree, set_of, IsPlan}
 use Rattle.jp_tree.specs.declared.pool.PlanNode.{PlanNode}
 use Rattle.jp_tree.specs.Pools.{IsTreeOf}
-use Rattle.jp_tree.proofs.PoolLaws.{tree_stays}
+use Rattle.jp_tree.proofs.PoolLaws.{tree_stays, same_tree}
 use Rattle.jp_search.specs.declared.table.Found.{Found}
 use Rattle.jp_search.specs.Counts.{parts_of, parts_below}
 use Rattle.jp_search.specs.Entries.{IsEntry, Knows, GrowsTo}
 use Rattle.jp_search.specs.Tables.{entry_at}
 use Rattle.jp_search.specs.TreeOrder.{ComesBefore, OnlyNests}
 use Rattle.jp_search.proofs.NumberLaws.{of_one}
-use Rattle.jp_search.proofs.TreeLaws.{tree_item, nested, nested_set, nested_nests, nested_legal, same_tree}
+use Rattle.jp_search.proofs.TreeLaws.{tree_item, nested, nested_set, nested_nests, nested_legal}
 
 -- more nodes change no entry
 entry_stays : (problem : Problem) (nodes more : List PlanNode) (set : ℕ) (o : Option Found) → IsEntry problem nodes set o → IsEntry problem (nodes ++ more) set o

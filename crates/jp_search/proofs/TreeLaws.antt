@@ -43,39 +43,7 @@ nested_legal problem (Join method kind left right) (step, allowed, on_left, on_r
   nested_legal problem right on_right,
 )
 
--- ---- numbers in a pool
-
--- a number names one tree
-some_node : (a b : PlanNode) (o : Option PlanNode) → o ≡ Some a → o ≡ Some b → a ≡ b
-some_node a b o e f = cc
-
-scan_is : (i k : ℕ) → node.Scan i ≡ node.Scan k → i ≡ k
-scan_is i k e = cc
-
-scan_not_join : {X : Type 0} (i : ℕ) (m : Method) (s : Step) (l r : ℕ) → node.Scan i ≡ node.Join m s l r → X
-scan_not_join i m s l r e = cc
-
-join_method : (m n : Method) (s z : Step) (l r a b : ℕ) → node.Join m s l r ≡ node.Join n z a b → m ≡ n
-join_method m n s z l r a b e = cc
-
-join_step : (m n : Method) (s z : Step) (l r a b : ℕ) → node.Join m s l r ≡ node.Join n z a b → s ≡ z
-join_step m n s z l r a b e = cc
-
-join_left : (m n : Method) (s z : Step) (l r a b : ℕ) → node.Join m s l r ≡ node.Join n z a b → l ≡ a
-join_left m n s z l r a b e = cc
-
-join_right : (m n : Method) (s z : Step) (l r a b : ℕ) → node.Join m s l r ≡ node.Join n z a b → r ≡ b
-join_right m n s z l r a b e = cc
-
-pub same_tree : (nodes : List PlanNode) (id : ℕ) (t u : Tree) → IsTreeOf nodes id t → IsTreeOf nodes id u → t ≡ u
-same_tree nodes id (Scan i) (Scan k) e f = ap Scan (scan_is i k (some_node (node.Scan i) (node.Scan k) (slice_get nodes id) e f))
-same_tree nodes id (Scan i) (Join m s left right) e (l, r, f, on_left, on_right) = scan_not_join i m s l r (some_node (node.Scan i) (node.Join m s l r) (slice_get nodes id) e f)
-same_tree nodes id (Join m s left right) (Scan i) (l, r, f, on_left, on_right) e = scan_not_join i m s l r (some_node (node.Scan i) (node.Join m s l r) (slice_get nodes id) e f)
-same_tree nodes id (Join m s left right) (Join n z a b) (l, r, e, on_left, on_right) (k, q, f, on_a, on_b) =
-    let one = some_node (node.Join m s l r) (node.Join n z k q) (slice_get nodes id) e f in
-    let left_is = same_tree nodes l left a on_left (subst (λ x. IsTreeOf nodes x a) (sym (join_left m n s z l r k q one)) on_a) in
-    let right_is = same_tree nodes r right b on_right (subst (λ x. IsTreeOf nodes x b) (sym (join_right m n s z l r k q one)) on_b) in
-    ap (λ x. Join x s left right) (join_method m n s z l r k q one) ∙ ap (λ x. Join n x left right) (join_step m n s z l r k q one) ∙ ap₂ (Join n z) left_is right_is
+-- ---- roots
 
 -- the tree whose root this node is
 abbrev pub IsTreeBy : List PlanNode → PlanNode → Tree → Type 0

@@ -1,8 +1,10 @@
-//! Plan trees, kept in a pool.
+//! Plan trees, kept in a pool, and planned statements.
 #![tactic(auto)]
 
 mod pool;
+mod prepared;
 #[cfg(test)]
 mod tests;
 
 pub use pool::{PlanId, PlanNode, Pool};
+pub use prepared::{Block, Prepared, RelName};
