@@ -2,7 +2,6 @@
 use Rattle.std.proofs.Common.{◌≡◌, ◌∙◌, sym, ap, subst, subst₂, refl, ℕ, zero, suc, ◌^◌, ◌<◌, ◌≤◌, ◌⊎◌, inl, inr, arith, List, [], ◌∷◌, ◌++◌, length, Option, Some, None}
 use Rattle.std.specs.Prelude.{slice_get}
 use Rattle.std.proofs.lemmas.Bool.{cases_eq, cases_lt}
-use Rattle.std.proofs.lemmas.Option.{slice_get_within}
 use Rattle.std.proofs.Math.Nat.{pow-le-pow_right}
 use Rattle.std.proofs.lemmas.Nat.Bits.{bit_at-pow_same}
 use Rattle.jp_base.specs.Sets.{Has}
@@ -17,7 +16,8 @@ use Rattle.jp_tree.proofs.PoolLaws.{tree_stays, named_below}
 use Rattle.jp_search.specs.declared.table.Choice.{Choice}
 use Rattle.jp_search.specs.declared.table.Found.{Found}
 use Rattle.jp_search.specs.Entries.{IsEntry, Knows}
-use Rattle.jp_search.specs.Ready.{IsReady, IsSmall}
+use Rattle.jp_search.specs.Joins.{facts_of}
+use Rattle.jp_search.specs.Ready.{IsReady, IsTold}
 use Rattle.jp_search.specs.Splits.{IsLeastAbove, scanned}
 use Rattle.jp_search.specs.Tables.{entry_at}
 use Rattle.jp_search.specs.TreeCosts.{tree_cost}
@@ -104,20 +104,21 @@ module _ (problem : Problem) (nodes : List PlanNode) (entries : List (Option Fou
       item_low : (i : ℕ) → set ≡ 2 ^ i → i < length problem.items
       item_low i is = elim (cases_lt i n) [ inl low ↦ omega (arith, low, count) | inr high ↦ absurd (omega (arith, small, is, pow-le-pow_right {n = 2} (omega arith) {i = n} {j = i} high)) ]
 
-  pub some_entry : (c : Choice) (t : Tree) (more : Found) (after : List PlanNode) → IsTreeBy nodes c.node t × IsFirst problem set t × (c.cost ≡ tree_cost problem t) → after ≡ nodes ++ c.node ∷ [] → more.plan ≡ length nodes → more.cost ≡ c.cost → more.rows ≡ estimate problem set → IsEntry problem after set (Some more)
-  some_entry c t more after (by, first, cost) after_is plan same rows = (t, subst₂ (λ ns id. IsTreeOf ns id t) (sym after_is) (sym plan) (pushed nodes c.node t by), first, same ∙ cost, rows)
+  pub some_entry : (c : Choice) (t : Tree) (more : Found) (after : List PlanNode) → IsTreeBy nodes c.node t × IsFirst problem set t × (c.cost ≡ tree_cost problem t) → after ≡ nodes ++ c.node ∷ [] → more.plan ≡ length nodes → more.cost ≡ c.cost → more.rows ≡ estimate problem set → more.facts ≡ facts_of problem.joins set → IsEntry problem after set (Some more)
+  some_entry c t more after (by, first, cost) after_is plan same rows facts = (t, subst₂ (λ ns id. IsTreeOf ns id t) (sym after_is) (sym plan) (pushed nodes c.node t by), first, same ∙ cost, rows, facts)
 
 -- ---- the table
 
 -- a table that knows its sets has room for steps
 pub ready : (problem : Problem) (nodes : List PlanNode) (entries : List (Option Found)) (set : ℕ) → IsSearchable problem → length entries ≡ 2 ^ length problem.items → set < length entries → 0 < set → Knows problem nodes entries set → IsReady problem entries set
-ready problem nodes entries set ok size there some knows = record { few = ok.few; size = size; there = there; some = some; small = small }
+ready problem nodes entries set ok size there some knows = record { few = ok.few; sets = ok.estimable.sets; size = size; there = there; some = some; told = told }
   where
     known_at : (part : ℕ) (found : Found) → part < set → entry_at entries part ≡ Some found → IsEntry problem nodes part (Some found)
     known_at part found below e = subst (IsEntry problem nodes part) e (knows.known part below)
 
-    small : (part : ℕ) → part < set → IsSmall entries part
-    small part below = record {
+    told : (part : ℕ) → part < set → IsTold problem entries part
+    told part below = record {
       cost = λ found e. let known = known_at part found below e in subst (λ n. n ≤ 2 ^ 126) (sym known.3) (tree_most problem ok.estimable ok.few ok.costs known.0 known.2.legal known.2.nests);
       rows = λ found e. let known = known_at part found below e in subst (λ n. n ≤ 2 ^ 60) (sym known.4) (rows_most problem ok.estimable part);
+      facts = λ found e. (known_at part found below e).5;
     }

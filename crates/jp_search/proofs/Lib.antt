@@ -2,6 +2,7 @@ pub mod CostLaws
 pub mod CountLaws
 pub mod EntryLaws
 pub mod FirstLaws
+pub mod JoinLaws
 pub mod NumberLaws
 pub mod PartLaws
 pub mod SplitLaws

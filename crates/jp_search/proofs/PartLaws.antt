@@ -45,6 +45,9 @@ part_and_rest set left within = same_set (bit_or left (without set left)) set (�
         cases_has : (s i : ℕ) → Has s i ⊎ (Has s i → ⊥)
         cases_has s i = cases_eq _ 1
 
+pub part_apart : (set left : ℕ) → Apart left (without set left)
+part_apart set left (i, here, there) = ((has_without set left i).0 there).1 here
+
 -- the rest of a union of two sets that share nothing
 pub rest_is : (left right : ℕ) → Apart left right → right ≡ without (bit_or left right) left
 rest_is left right apart = same_set right (without (bit_or left right) left) (λ i. (to i, from i))

@@ -1,44 +1,45 @@
 -- What a split gives.
-use Rattle.std.proofs.Common.{◌≡◌, ◌∙◌, sym, ap, subst, refl, ℕ, ◌<◌, ◌≤◌, ◌⊎◌, ◌↔◌, inl, inr, Bool, true, false, arith, List, Option, Some, None}
+use Rattle.std.proofs.Common.{◌≡◌, ◌∙◌, sym, ap, subst, refl, ℕ, ◌<◌, ◌≤◌, ◌⊎◌, inl, inr, Bool, true, false, arith, List, Option, Some, None}
 use Rattle.std.specs.Prelude.{nat_lt, if◌then◌else◌}
-use Rattle.std.proofs.lemmas.Bool.{cases_eq, cases_lt, ltb-true, ltb-false}
+use Rattle.std.proofs.lemmas.Bool.{both_ways, cases_eq, cases_lt, ltb-true, ltb-false}
 use Rattle.jp_base.specs.Sets.{Within, IsGreatestBelow}
 use Rattle.jp_problem.specs.declared.types.Problem.{Problem}
 use Rattle.jp_problem.specs.declared.types.Step.{Step}
-use Rattle.jp_problem.specs.Legal.{IsLegalStep}
-use Rattle.jp_problem.specs.LegalTests.{step_of}
+use Rattle.jp_problem.specs.Legal.{IsJoinable}
+use Rattle.jp_problem.specs.LegalTests.{is_joinable, step_of}
 use Rattle.jp_problem.specs.Sets.{without}
-use Rattle.jp_problem.proofs.LegalLaws.{step_says}
+use Rattle.jp_problem.proofs.LegalLaws.{joinable_says, step_says}
 use Rattle.jp_search.specs.declared.table.Choice.{Choice}
 use Rattle.jp_search.specs.declared.table.Found.{Found}
 use Rattle.jp_search.specs.Splits.{stepped, joined, split_of, at_part, IsPartAbove, IsLeastAbove, lesser}
 use Rattle.jp_search.specs.Tables.{entry_at}
 use Rattle.jp_search.specs.TreeOrder.{Then}
+use Rattle.jp_search.proofs.PartLaws.{part_and_rest}
 
 none_some : {X : Type 0} (x : X) → None ≡ Some x → ⊥
 none_some x e = cc
-
--- an answer that is each legal kind, and nothing else, is the computed one
-pub step_is : (problem : Problem) (left right : ℕ) (result : Option Step) → ((kind : Step) → (result ≡ Some kind) ↔ IsLegalStep problem left right kind) → result ≡ step_of problem.joins left right
-step_is problem left right result says = go result (step_of problem.joins left right) refl refl
-  where
-    go : (a b : Option Step) → result ≡ a → step_of problem.joins left right ≡ b → result ≡ step_of problem.joins left right
-    go (Some kind) b is_a is_b = is_a ∙ sym ((step_says problem left right kind).1 ((says kind).0 is_a))
-    go None None is_a is_b = is_a ∙ sym is_b
-    go None (Some kind) is_a is_b = absurd (none_some kind (sym is_a ∙ (says kind).1 ((step_says problem left right kind).0 is_b)))
 
 module _ (problem : Problem) (entries : List (Option Found)) (left right : ℕ) where
   pub all_there : (kind : Step) (f g : Found) (c : Choice) → step_of problem.joins left right ≡ Some kind → entry_at entries left ≡ Some f → entry_at entries right ≡ Some g → c ≡ stepped kind f g → Some c ≡ split_of problem entries left right
   unfolding split_of
   all_there kind f g c a b d e = rw (a, b, d, e) refl
 
-  pub no_right : (kind : Step) (f : Found) → step_of problem.joins left right ≡ Some kind → entry_at entries left ≡ Some f → entry_at entries right ≡ None → None ≡ split_of problem entries left right
+  pub no_right : entry_at entries right ≡ None → None ≡ split_of problem entries left right
   unfolding split_of
-  no_right kind f a b d = rw (a, b, d) refl
+  no_right e = rw e (go (step_of problem.joins left right) (entry_at entries left))
+    where
+      go : (s : Option Step) (x : Option Found) → None ≡ joined s x None
+      go (Some kind) (Some f) = refl
+      go (Some kind) None = refl
+      go None x = refl
 
-  pub no_left : (kind : Step) → step_of problem.joins left right ≡ Some kind → entry_at entries left ≡ None → None ≡ split_of problem entries left right
+  pub no_left : entry_at entries left ≡ None → None ≡ split_of problem entries left right
   unfolding split_of
-  no_left kind a b = rw (a, b) refl
+  no_left e = rw e (go (step_of problem.joins left right))
+    where
+      go : (s : Option Step) → None ≡ joined s None (entry_at entries right)
+      go (Some kind) = refl
+      go None = refl
 
   pub no_step : step_of problem.joins left right ≡ None → None ≡ split_of problem entries left right
   unfolding split_of
@@ -136,3 +137,13 @@ module _ (problem : Problem) (entries : List (Option Found)) (set : ℕ) where
                 | inr tie ↦ elim (cases_eq b.cost d.cost) [ inl equal ↦ inr (equal, omega (arith, further.above)) | inr differ ↦ inl (omega (arith, tie.0, no_more, differ)) ]
               ]
             ]
+
+-- a set that can't be joined by itself has no split
+pub no_split : (problem : Problem) (entries : List (Option Found)) (set : ℕ) → is_joinable problem.joins set ≡ false → IsLeastAbove problem entries set 0 None
+no_split problem entries set e part above = sym (no_step problem entries part (without set part) (none (step_of problem.joins part (without set part)) refl))
+  where
+    none : (s : Option Step) → step_of problem.joins part (without set part) ≡ s → step_of problem.joins part (without set part) ≡ None
+    none None is = is
+    none (Some kind) is =
+        let step = (step_says problem part (without set part) kind).0 is in
+        absurd (both_ways (is_joinable problem.joins set) e ((joinable_says problem set).1 (subst (IsJoinable problem) (part_and_rest set part above.within) step.step.joinable)))

@@ -27,7 +27,7 @@ use Rattle.jp_search.proofs.TreeLaws.{tree_item, nested, nested_set, nested_nest
 -- more nodes change no entry
 entry_stays : (problem : Problem) (nodes more : List PlanNode) (set : ℕ) (o : Option Found) → IsEntry problem nodes set o → IsEntry problem (nodes ++ more) set o
 entry_stays problem nodes more set None none = none
-entry_stays problem nodes more set (Some f) (t, named, first, cost, rows) = (t, tree_stays nodes more f.plan t named, first, cost, rows)
+entry_stays problem nodes more set (Some f) (t, named, first, cost, rows, facts) = (t, tree_stays nodes more f.plan t named, first, cost, rows, facts)
 
 pub knows_more : (problem : Problem) (nodes after : List PlanNode) (entries : List (Option Found)) (set : ℕ) (o : Option Found) → Knows problem nodes entries set → GrowsTo nodes after → IsEntry problem after set o → set < length entries → Knows problem after (slice_set entries set o) (set + 1)
 knows_more problem nodes after entries set o knows (more, grown) entry there = record { known = known }

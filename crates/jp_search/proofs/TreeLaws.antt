@@ -1,13 +1,11 @@
 -- Legal trees: their sets, their costs and their numbers.
-use Rattle.std.proofs.Common.{◌≡◌, ◌∙◌, sym, ap, ap₂, subst, refl, ℕ, List, Option, Some}
-use Rattle.std.specs.Prelude.{bit_or, slice_get}
+use Rattle.std.proofs.Common.{◌≡◌, sym, ap₂, subst, refl, ℕ, List}
+use Rattle.std.specs.Prelude.{bit_or}
 use Rattle.jp_base.specs.Sets.{Has}
 use Rattle.jp_base.proofs.MaskAlgebra.{in_left}
 use Rattle.std.proofs.lemmas.Nat.Bits.{bit_at-pow_same}
 use Rattle.jp_problem.specs.declared.types.Problem.{Problem}
-use Rattle.jp_problem.specs.declared.types.Method.{Method}
 use Rattle.jp_problem.specs.declared.types.Method.TheVariants.{Nest}
-use Rattle.jp_problem.specs.declared.types.Step.{Step}
 use Rattle.jp_problem.specs.Legal.{IsLegalStep}
 use Rattle.jp_problem.specs.Trees.{Tree, Scan, Join, set_of, IsLegalTree}
 use Rattle.jp_tree.specs.declared.pool.PlanNode.{PlanNode}

@@ -1,5 +1,6 @@
 pub mod Counts
 pub mod Entries
+pub mod Joins
 pub mod Ready
 pub mod Splits
 pub mod Tables

@@ -8,6 +8,7 @@ ghost use Rattle.jp_search.specs.Tables.{entry_at};
 ghost use Rattle.jp_search.specs.TreeOrder.{ComesBefore, OnlyNests};
 
 use crate::Steps;
+use crate::joins::facts_of;
 use crate::numbers::set_of;
 use crate::splits::chosen;
 use crate::table::{Found, Table};
@@ -80,11 +81,13 @@ fn found<L: Ledger>(
     ensures room { pool.old.spare ≤ pool.new.spare + 1 }
     ensures steps { steps.new ≤ steps.old + parts_of (length problem.now.items) set }
 {
-    match chosen(problem, table, set, steps) {
+    let facts = facts_of(problem, set);
+    match chosen(problem, table, set, &facts, steps) {
         Some(choice) => Some(Found {
             plan: put(pool, choice.node),
             cost: choice.cost,
             rows: estimate(problem, set),
+            facts,
         }),
         None => None,
     }

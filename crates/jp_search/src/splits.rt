@@ -1,16 +1,19 @@
-ghost use Rattle.std.specs.Prelude.{◌≡◌, ℕ, ◌+◌, ◌<◌, ◌≤◌, ◌^◌, ◌↔◌, length, Some};
+ghost use Rattle.std.specs.Prelude.{◌≡◌, ℕ, ◌+◌, ◌<◌, ◌≤◌, ◌^◌, ◌↔◌, bit_or, length, Some, All, true};
 ghost use Rattle.jp_base.specs.Sets.{IsGreatestBelow};
-ghost use Rattle.jp_problem.specs.LegalTests.{step_of};
+ghost use Rattle.jp_problem.specs.Legal.{Apart};
+ghost use Rattle.jp_problem.specs.Made.{HasApartSets};
 ghost use Rattle.jp_search.specs.Counts.{parts_of};
-ghost use Rattle.jp_search.specs.Ready.{IsReady, IsSmall};
+ghost use Rattle.jp_search.specs.Joins.{facts_of};
+ghost use Rattle.jp_search.specs.Ready.{IsReady, IsTold};
 ghost use Rattle.jp_search.specs.Splits.{IsLeastAbove, lesser, scanned, split_of, stepped};
 
 use crate::Steps;
+use crate::joins::{Facts, kind_of};
 use crate::table::{Choice, Found, Table};
 use jp_base::{ItemNo, RelSet};
 use jp_cost::step_cost;
 use jp_problem::sets::{is_empty, without};
-use jp_problem::{Method, Problem, Step, step_kind};
+use jp_problem::{Method, Problem, Step};
 use jp_tree::PlanNode;
 use std::sync::ledger::Ledger;
 
@@ -19,16 +22,24 @@ pub fn chosen<L: Ledger>(
     problem: &Problem,
     table: &Table,
     set: RelSet,
+    facts: &Facts,
     steps: &mut Steps<L>,
 ) -> Option<Choice>
-    requires { IsReady problem.now table.now set }
+    requires ready { IsReady problem.now table.now set }
+    requires facts { facts.now ≡ facts_of problem.now.joins set }
     ensures single { (i : ℕ) → set ≡ 2 ^ i → result ≡ Some (scanned problem.now i) }
     ensures several { ((i : ℕ) → ¬ (set ≡ 2 ^ i)) → IsLeastAbove problem.now table.now set 0 result }
     ensures count { steps.new ≤ steps.old + parts_of (length problem.now.items) set }
 {
     match only_item(set) {
         Some(item) => Some(scan(problem, item)),
-        None => least_split(problem, table, set, steps),
+        None => {
+            if facts.joinable {
+                least_split(problem, table, set, facts, steps)
+            } else {
+                None
+            }
+        }
     }
 }
 
@@ -64,9 +75,12 @@ fn least_split<L: Ledger>(
     problem: &Problem,
     table: &Table,
     set: RelSet,
+    facts: &Facts,
     steps: &mut Steps<L>,
 ) -> Option<Choice>
-    requires { IsReady problem.now table.now set }
+    requires ready { IsReady problem.now table.now set }
+    requires facts { facts.now ≡ facts_of problem.now.joins set }
+    requires joinable { facts.now.joinable ≡ true }
     ensures least { IsLeastAbove problem.now table.now set 0 result }
     ensures count { steps.new ≤ steps.old + parts_of (length problem.now.items) set }
 {
@@ -74,7 +88,10 @@ fn least_split<L: Ledger>(
     let mut left = below(set, set);
     'parts: while !is_empty(left) {
         steps.count();
-        least = lesser(least, split(problem, table, left, without(set, left)));
+        least = lesser(
+            least,
+            split(problem, table, left, without(set, left), facts),
+        );
         left = below(set, left);
     }
     least
@@ -105,32 +122,36 @@ fn lesser(first: Option<Choice>, second: Option<Choice>) -> Option<Choice>
     }
 }
 
-/// The step of the first trees of two sets, where it is legal and both have one.
-fn split(problem: &Problem, table: &Table, left: RelSet, right: RelSet) -> Option<Choice>
+/// The step of the first trees of two disjoint sets, where it is legal and both have one. `facts` are those of their union,
+/// which is joinable.
+fn split(
+    problem: &Problem,
+    table: &Table,
+    left: RelSet,
+    right: RelSet,
+    facts: &Facts,
+) -> Option<Choice>
+    requires sets { All HasApartSets problem.now.joins }
     requires few { length table.now ≤ 2 ^ 16 }
     requires left_there { left < length table.now }
     requires right_there { right < length table.now }
-    requires left_small { IsSmall table.now left }
-    requires right_small { IsSmall table.now right }
+    requires left_told { IsTold problem.now table.now left }
+    requires right_told { IsTold problem.now table.now right }
+    requires apart { Apart left right }
+    requires facts { facts.now ≡ facts_of problem.now.joins (bit_or left right) }
+    requires joinable { facts.now.joinable ≡ true }
     ensures { result ≡ split_of problem.now table.now left right }
 {
-    match kind_of(problem, left, right) {
-        Some(kind) => match table.entry(left) {
-            Some(left_tree) => match table.entry(right) {
-                Some(right_tree) => Some(step(kind, left_tree, right_tree)),
+    match table.entry(left) {
+        Some(a) => match table.entry(right) {
+            Some(b) => match kind_of(problem, left, right, &a.facts, &b.facts, facts) {
+                Some(kind) => Some(step(kind, a, b)),
                 None => None,
             },
             None => None,
         },
         None => None,
     }
-}
-
-/// The kind of a step; none where it isn't legal.
-fn kind_of(problem: &Problem, left: RelSet, right: RelSet) -> Option<Step>
-    ensures { result ≡ step_of problem.now.joins left right }
-{
-    step_kind(problem, left, right)
 }
 
 /// A step of two trees.

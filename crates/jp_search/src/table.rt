@@ -1,19 +1,21 @@
 ghost use Rattle.std.specs.Prelude.{◌≡◌, ℕ, ◌<◌, ◌≤◌, ◌^◌, None, length, slice_set, IfOk};
 ghost use Rattle.jp_search.specs.Tables.{entry_at};
 
+use crate::joins::Facts;
 use crate::numbers::number;
 use jp_base::{Memory, RelSet};
 use jp_tree::{PlanId, PlanNode};
 use std::alloc::Global;
 use std::marker::Model;
 
-/// What the search knows of a set that has a legal tree: the number of the first one in the pool, what it costs, and how
-/// many rows the set is estimated to have.
+/// What the search knows of a set that has a legal tree: the number of the first one in the pool, what it costs, how many
+/// rows the set is estimated to have, and what it says of the joins.
 #[derive(Clone, Copy)]
 pub struct Found {
     pub plan: PlanId,
     pub cost: u128,
     pub rows: u64,
+    pub facts: Facts,
 }
 
 /// The root of a tree that isn't in the pool yet, and what the tree costs.

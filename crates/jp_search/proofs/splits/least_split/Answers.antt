@@ -1,9 +1,12 @@
 use Rattle.std.proofs.Common.{◌∙◌, sym, ap, subst, ◌<◌, length, arith}
 use Rattle.jp_problem.specs.Sets.{without}
-use Rattle.jp_search.specs.Ready.{IsSmall}
+use Rattle.std.specs.Prelude.{bit_or}
+use Rattle.jp_problem.specs.Legal.{Apart}
+use Rattle.jp_search.specs.Joins.{facts_of}
+use Rattle.jp_search.specs.Ready.{IsTold}
 use Rattle.jp_search.specs.Splits.{IsLeastAbove, split_of}
 use Rattle.jp_search.proofs.CountLaws.{place_below, next_place}
-use Rattle.jp_search.proofs.PartLaws.{not_zero, rest_below}
+use Rattle.jp_search.proofs.PartLaws.{part_and_rest, part_apart, not_zero, rest_below}
 use Rattle.jp_search.proofs.SplitLaws.{none_yet, one_more}
 use Rattle.jp_search.proofs.splits.least_split.Goals as goal
 
@@ -19,13 +22,13 @@ pub split-requires-clause-right_there : goal.split-requires-clause-right_there
 split-requires-clause-right_there g c =
     let some = not_zero c.parts.left c.is_empty.result c.is_empty.ensures c.parts-test.true in
     let less = rest_below c.args.set c.parts.left some c.parts.invariant.within in
-    omega (arith, c.without.ensures, less, c.requires.there)
+    omega (arith, c.without.ensures, less, c.requires.ready.there)
 
-pub split-requires-clause-right_small : goal.split-requires-clause-right_small
-split-requires-clause-right_small g c =
+pub split-requires-clause-right_told : goal.split-requires-clause-right_told
+split-requires-clause-right_told g c =
     let some = not_zero c.parts.left c.is_empty.result c.is_empty.ensures c.parts-test.true in
     let less = rest_below c.args.set c.parts.left some c.parts.invariant.within in
-    subst (IsSmall c.args.table.now) (sym c.without.ensures) (c.requires.small (without c.args.set c.parts.left) less)
+    subst (IsTold c.args.problem.now c.args.table.now) (sym c.without.ensures) (c.requires.ready.told (without c.args.set c.parts.left) less)
 
 pub parts-preserved : goal.parts-preserved
 parts-preserved g c =
@@ -35,5 +38,12 @@ parts-preserved g c =
       within = next.ensures.within;
       below = omega (arith, next.ensures.below, c.parts.invariant.below);
       least = subst (IsLeastAbove c.args.problem.now c.args.table.now c.args.set c.below-left-in-parts.result) (sym c.lesser-least.ensures) (one_more c.args.problem.now c.args.table.now c.args.set c.parts.left c.below-left-in-parts.result some c.parts.invariant.within c.parts.invariant.below next.ensures c.parts.least c.split.result c.parts.invariant.least (c.split.ensures ∙ ap (split_of c.args.problem.now c.args.table.now c.parts.left) c.without.ensures));
-      steps = omega (arith, c.count.ensures, c.parts.invariant.steps, next_place (length c.args.problem.now.items) c.args.set c.parts.left c.below-left-in-parts.result (subst (λ n. c.args.set < n) c.requires.size c.requires.there) c.parts.invariant.within c.parts.invariant.below next.ensures.within next.ensures.below);
+      steps = omega (arith, c.count.ensures, c.parts.invariant.steps, next_place (length c.args.problem.now.items) c.args.set c.parts.left c.below-left-in-parts.result (subst (λ n. c.args.set < n) c.requires.ready.size c.requires.ready.there) c.parts.invariant.within c.parts.invariant.below next.ensures.within next.ensures.below);
     }
+
+pub split-requires-clause-apart : goal.split-requires-clause-apart
+split-requires-clause-apart g c = subst (Apart c.parts.left) (sym c.without.ensures) (part_apart c.args.set c.parts.left)
+
+pub split-requires-clause-facts : goal.split-requires-clause-facts
+split-requires-clause-facts g c =
+    c.requires.facts ∙ ap (facts_of c.args.problem.now.joins) (sym (part_and_rest c.args.set c.parts.left c.parts.invariant.within) ∙ ap (bit_or c.parts.left) (sym c.without.ensures))
