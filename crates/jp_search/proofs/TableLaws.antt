@@ -80,7 +80,7 @@ span_more first n i rest = (to, from)
       | inr d ↦ (has_or (2 ^ first) (span (suc first) n) i).1 (inr (rest.1 (omega (arith, h.0, d), omega (arith, h.1))))
     ]
 
-has_span : (first n i : ℕ) → Has (span first n) i ↔ ((first ≤ i) × (i < first + n))
+pub has_span : (first n i : ℕ) → Has (span first n) i ↔ ((first ≤ i) × (i < first + n))
 has_span first zero i = (λ h. absurd (has_none i h), λ h. absurd (omega (arith, h.0, h.1)))
 has_span first (suc n) i = span_more first n i (has_span (suc first) n i)
 
