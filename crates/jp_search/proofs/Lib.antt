@@ -4,6 +4,7 @@ pub mod EntryLaws
 pub mod FirstLaws
 pub mod JoinLaws
 pub mod NumberLaws
+pub mod OrderLaws
 pub mod PartLaws
 pub mod SplitLaws
 pub mod TableLaws

@@ -1,5 +1,5 @@
 -- What a split gives.
-use Rattle.std.proofs.Common.{◌≡◌, ◌∙◌, sym, ap, subst, refl, ℕ, ◌<◌, ◌≤◌, ◌⊎◌, inl, inr, Bool, true, false, arith, List, Option, Some, None}
+use Rattle.std.proofs.Common.{◌≡◌, ◌∙◌, sym, ap, subst, refl, ℕ, ◌<◌, ◌≤◌, ◌⊎◌, inl, inr, Bool, true, false, arith, List, length, Option, Some, None}
 use Rattle.std.specs.Prelude.{nat_lt, if◌then◌else◌}
 use Rattle.std.proofs.lemmas.Bool.{both_ways, cases_eq, cases_lt, ltb-true, ltb-false}
 use Rattle.jp_base.specs.Sets.{Within, IsGreatestBelow}
@@ -11,10 +11,11 @@ use Rattle.jp_problem.specs.Sets.{without}
 use Rattle.jp_problem.proofs.LegalLaws.{joinable_says, step_says}
 use Rattle.jp_search.specs.declared.table.Choice.{Choice}
 use Rattle.jp_search.specs.declared.table.Found.{Found}
+use Rattle.jp_search.specs.Ready.{IsReady, IsTold}
 use Rattle.jp_search.specs.Splits.{stepped, joined, split_of, at_part, IsPartAbove, IsLeastAbove, lesser}
 use Rattle.jp_search.specs.Tables.{entry_at}
 use Rattle.jp_search.specs.TreeOrder.{Then}
-use Rattle.jp_search.proofs.PartLaws.{part_and_rest}
+use Rattle.jp_search.proofs.PartLaws.{part_and_rest, rest_below}
 
 none_some : {X : Type 0} (x : X) → None ≡ Some x → ⊥
 none_some x e = cc
@@ -98,7 +99,7 @@ module _ (problem : Problem) (entries : List (Option Found)) (set : ℕ) where
     some_is : (a b : Choice) → Some a ≡ Some b → a ≡ b
     some_is a b e = cc
 
-    pub one_more : (least found : Option Choice) → IsLeastAbove problem entries set left least → found ≡ split_of problem entries left (without set left) → IsLeastAbove problem entries set next (lesser least found)
+    one_more : (least found : Option Choice) → IsLeastAbove problem entries set left least → found ≡ split_of problem entries left (without set left) → IsLeastAbove problem entries set next (lesser least found)
     one_more None None known is = λ part above. elim (later part above) [ inl e ↦ at_left part None e (sym is) | inr more ↦ known part more ]
     one_more None (Some b) known is = (left, here, sym is, only)
       where
@@ -138,6 +139,9 @@ module _ (problem : Problem) (entries : List (Option Found)) (set : ℕ) where
               ]
             ]
 
+    pub further : (rest : ℕ) (least found after : Option Choice) → IsLeastAbove problem entries set left least → rest ≡ without set left → found ≡ split_of problem entries left rest → after ≡ lesser least found → IsLeastAbove problem entries set next after
+    further rest least found after known rest_is is e = subst (IsLeastAbove problem entries set next) (sym e) (one_more least found known (is ∙ ap (split_of problem entries left) rest_is))
+
 -- a set that can't be joined by itself has no split
 pub no_split : (problem : Problem) (entries : List (Option Found)) (set : ℕ) → is_joinable problem.joins set ≡ false → IsLeastAbove problem entries set 0 None
 no_split problem entries set e part above = sym (no_step problem entries part (without set part) (none (step_of problem.joins part (without set part)) refl))
@@ -147,3 +151,12 @@ no_split problem entries set e part above = sym (no_step problem entries part (w
     none (Some kind) is =
         let step = (step_says problem part (without set part) kind).0 is in
         absurd (both_ways (is_joinable problem.joins set) e ((joinable_says problem set).1 (subst (IsJoinable problem) (part_and_rest set part above.within) step.step.joinable)))
+
+-- ---- the rest of a part
+
+module _ (problem : Problem) (entries : List (Option Found)) (set left rest : ℕ) (ready : IsReady problem entries set) (some : 0 < left) (within : Within left set) (is : rest ≡ without set left) where
+  pub rest_there : rest < length entries
+  rest_there = omega (arith, is, rest_below set left some within, ready.there)
+
+  pub rest_told : IsTold problem entries rest
+  rest_told = subst (IsTold problem entries) (sym is) (ready.told (without set left) (rest_below set left some within))

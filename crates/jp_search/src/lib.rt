@@ -2,13 +2,13 @@
 #![tactic(auto)]
 
 mod joins;
+mod laws;
 mod numbers;
 mod search;
 mod splits;
 mod steps;
 mod table;
 
-pub use joins::Facts;
+pub use laws::plans_are_ordered;
 pub use search::best;
 pub use steps::Steps;
-pub use table::{Choice, Found};

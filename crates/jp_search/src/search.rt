@@ -34,6 +34,8 @@ pub fn best<L: Ledger>(
     ensures plan { IfOk result (λ id. (tree : Tree) × IsTreeOf pool.new.nodes id tree × IsPlan problem.now tree × OnlyNests tree) }
     ensures first { IfOk result (λ id. (tree other : Tree) → IsTreeOf pool.new.nodes id tree → IsPlan problem.now other → OnlyNests other → ¬ ComesBefore problem.now other tree) }
     ensures kept { GrowsTo pool.old.nodes pool.new.nodes }
+    // one node for a set, which all trees share
+    ensures shared { length pool.new.nodes ≤ length pool.old.nodes + 2 ^ length problem.now.items }
     ensures memory { OnErr result (pool.new.nodes ≡ pool.old.nodes) }
     ensures before_steps { OnErr result (steps.new ≡ steps.old) }
     ensures steps { steps.new ≤ steps.old + 3 ^ length problem.now.items }
@@ -54,6 +56,7 @@ fn fill<L: Ledger>(problem: &Problem, table: &mut Table, pool: &mut Pool, steps:
     ensures size { length table.new ≡ 2 ^ length problem.now.items }
     ensures known { Knows problem.now pool.new.nodes table.new (length table.new) }
     ensures kept { GrowsTo pool.old.nodes pool.new.nodes }
+    ensures shared { length pool.new.nodes ≤ length pool.old.nodes + length table.new }
     ensures steps { steps.new ≤ steps.old + parts_below (length problem.now.items) (length table.new) }
 {
     'sets: for number in 1..table.len() {
@@ -78,6 +81,7 @@ fn found<L: Ledger>(
     requires room { 0 < pool.old.spare }
     ensures entry { IsEntry problem.now pool.new.nodes set result }
     ensures kept { GrowsTo pool.old.nodes pool.new.nodes }
+    ensures shared { length pool.new.nodes ≤ length pool.old.nodes + 1 }
     ensures room { pool.old.spare ≤ pool.new.spare + 1 }
     ensures steps { steps.new ≤ steps.old + parts_of (length problem.now.items) set }
 {

@@ -15,6 +15,7 @@ sets-preserved g c =
       size = size ∙ c.sets.invariant.size;
       known = subst (λ entries. Knows c.args.problem.now nodes entries (c.sets.number + 1)) (sym c.put.ensures) (knows_more c.args.problem.now c.sets.pool.nodes nodes c.sets.table c.sets.number c.found-entry.result c.sets.invariant.known c.found-entry.ensures.kept entry (omega (arith, c.sets.invariant.size, c.sets-test.true, c.len-number-end.ensures)));
       kept = grows_twice c.args.pool.now.nodes c.sets.pool.nodes nodes c.sets.invariant.kept c.found-entry.ensures.kept;
+      shared = omega (arith, c.sets.invariant.shared, c.found-entry.ensures.shared);
       room = omega (arith, size, c.sets.invariant.room, c.found-entry.ensures.room);
       steps = omega (arith, c.sets.invariant.steps, c.found-entry.ensures.steps, parts, parts_next (length c.args.problem.now.items) c.sets.number);
     }

@@ -1,13 +1,10 @@
 use Rattle.std.proofs.Common.{◌∙◌, sym, ap, subst, ◌<◌, length, arith}
-use Rattle.jp_problem.specs.Sets.{without}
 use Rattle.std.specs.Prelude.{bit_or}
 use Rattle.jp_problem.specs.Legal.{Apart}
 use Rattle.jp_search.specs.Joins.{facts_of}
-use Rattle.jp_search.specs.Ready.{IsTold}
-use Rattle.jp_search.specs.Splits.{IsLeastAbove, split_of}
 use Rattle.jp_search.proofs.CountLaws.{place_below, next_place}
-use Rattle.jp_search.proofs.PartLaws.{part_and_rest, part_apart, not_zero, rest_below}
-use Rattle.jp_search.proofs.SplitLaws.{none_yet, one_more}
+use Rattle.jp_search.proofs.PartLaws.{part_and_rest, part_apart, not_zero}
+use Rattle.jp_search.proofs.SplitLaws.{none_yet, further, rest_there, rest_told}
 use Rattle.jp_search.proofs.splits.least_split.Goals as goal
 
 pub parts-init : goal.parts-init
@@ -20,25 +17,20 @@ parts-init g c = record {
 
 pub split-requires-clause-right_there : goal.split-requires-clause-right_there
 split-requires-clause-right_there g c =
-    let some = not_zero c.parts.left c.is_empty.result c.is_empty.ensures c.parts-test.true in
-    let less = rest_below c.args.set c.parts.left some c.parts.invariant.within in
-    omega (arith, c.without.ensures, less, c.requires.ready.there)
+    rest_there c.args.problem.now c.args.table.now c.args.set c.parts.left c.without.result c.requires.ready (not_zero c.parts.left c.is_empty.result c.is_empty.ensures c.parts-test.true) c.parts.invariant.within c.without.ensures
 
 pub split-requires-clause-right_told : goal.split-requires-clause-right_told
 split-requires-clause-right_told g c =
-    let some = not_zero c.parts.left c.is_empty.result c.is_empty.ensures c.parts-test.true in
-    let less = rest_below c.args.set c.parts.left some c.parts.invariant.within in
-    subst (IsTold c.args.problem.now c.args.table.now) (sym c.without.ensures) (c.requires.ready.told (without c.args.set c.parts.left) less)
+    rest_told c.args.problem.now c.args.table.now c.args.set c.parts.left c.without.result c.requires.ready (not_zero c.parts.left c.is_empty.result c.is_empty.ensures c.parts-test.true) c.parts.invariant.within c.without.ensures
 
 pub parts-preserved : goal.parts-preserved
 parts-preserved g c =
-    let some = not_zero c.parts.left c.is_empty.result c.is_empty.ensures c.parts-test.true in
-    let next = c.below-left-in-parts in
+    let next = c.below-left-in-parts.ensures in
     record {
-      within = next.ensures.within;
-      below = omega (arith, next.ensures.below, c.parts.invariant.below);
-      least = subst (IsLeastAbove c.args.problem.now c.args.table.now c.args.set c.below-left-in-parts.result) (sym c.lesser-least.ensures) (one_more c.args.problem.now c.args.table.now c.args.set c.parts.left c.below-left-in-parts.result some c.parts.invariant.within c.parts.invariant.below next.ensures c.parts.least c.split.result c.parts.invariant.least (c.split.ensures ∙ ap (split_of c.args.problem.now c.args.table.now c.parts.left) c.without.ensures));
-      steps = omega (arith, c.count.ensures, c.parts.invariant.steps, next_place (length c.args.problem.now.items) c.args.set c.parts.left c.below-left-in-parts.result (subst (λ n. c.args.set < n) c.requires.ready.size c.requires.ready.there) c.parts.invariant.within c.parts.invariant.below next.ensures.within next.ensures.below);
+      within = next.within;
+      below = omega (arith, next.below, c.parts.invariant.below);
+      least = further c.args.problem.now c.args.table.now c.args.set c.parts.left c.below-left-in-parts.result (not_zero c.parts.left c.is_empty.result c.is_empty.ensures c.parts-test.true) c.parts.invariant.within c.parts.invariant.below next c.without.result c.parts.least c.split.result c.lesser-least.result c.parts.invariant.least c.without.ensures c.split.ensures c.lesser-least.ensures;
+      steps = omega (arith, c.count.ensures, c.parts.invariant.steps, next_place (length c.args.problem.now.items) c.args.set c.parts.left c.below-left-in-parts.result (subst (λ n. c.args.set < n) c.requires.ready.size c.requires.ready.there) c.parts.invariant.within c.parts.invariant.below next.within next.below);
     }
 
 pub split-requires-clause-apart : goal.split-requires-clause-apart
