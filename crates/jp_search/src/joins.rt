@@ -99,10 +99,8 @@ pub fn kind_of(
         return None;
     }
     let place = of_both.places - of_left.places - of_right.places;
-    match join_at(problem.joins.as_slice(), place) {
-        Some(join) => by_join(join, left, right),
-        None => None,
-    }
+    let join = join_at(problem.joins.as_slice(), place)?;
+    by_join(join, left, right)
 }
 
 fn join_at(joins: &[Special], place: u128) -> Option<&Special>

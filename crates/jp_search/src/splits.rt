@@ -48,15 +48,11 @@ fn only_item(set: RelSet) -> Option<ItemNo>
     requires { set < 2 ^ 16 }
     ensures { (i : ℕ) → (result ≡ Some i) ↔ (set ≡ 2 ^ i) }
 {
-    match set.first() {
-        Some(item) => {
-            if set.within(RelSet::one(item)) {
-                Some(item)
-            } else {
-                None
-            }
-        }
-        None => None,
+    let item = set.first()?;
+    if set.within(RelSet::one(item)) {
+        Some(item)
+    } else {
+        None
     }
 }
 
@@ -142,16 +138,10 @@ fn split(
     requires joinable { facts.now.joinable ≡ true }
     ensures { result ≡ split_of problem.now table.now left right }
 {
-    match table.entry(left) {
-        Some(a) => match table.entry(right) {
-            Some(b) => match kind_of(problem, left, right, &a.facts, &b.facts, facts) {
-                Some(kind) => Some(step(kind, a, b)),
-                None => None,
-            },
-            None => None,
-        },
-        None => None,
-    }
+    let a = table.entry(left)?;
+    let b = table.entry(right)?;
+    let kind = kind_of(problem, left, right, &a.facts, &b.facts, facts)?;
+    Some(step(kind, a, b))
 }
 
 /// A step of two trees.

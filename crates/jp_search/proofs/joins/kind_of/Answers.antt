@@ -34,12 +34,12 @@ overflow_sub-place c = left_sum c.args.problem.now.joins c.requires.sets c.args.
 pub overflow_sub-place-2 : goal.overflow_sub-place-2
 overflow_sub-place-2 c = right_sum c.args.problem.now.joins c.requires.sets c.args.left c.args.right c.requires.apart c.args.of_left.now c.args.of_right.now c.args.of_both.now c.requires.left c.requires.right c.requires.both
 
-pub returns-in-Some : goal.returns-in-Some
-returns-in-Some c =
-    let at = sym (ap (λ joins. slice_get joins (c.args.of_both.now.places - c.args.of_left.now.places - c.args.of_right.now.places)) c.as_slice.ensures) ∙ sym c.join_at.ensures ∙ ap option_copied c.in-Some.is in
-    c.by_join.ensures ∙ is_by c.args.problem.now.joins c.requires.sets c.args.left c.args.right c.requires.apart c.args.of_left.now c.args.of_right.now c.args.of_both.now c.requires.left c.requires.right c.requires.both c.if-not-of_left.false c.if-not-of_right.false c.requires.joinable c.if-new-eq0.false (λ more. omega (arith, more, c.if-new-gt1.false)) c.in-Some.join.now at
+pub returns : goal.returns
+returns c =
+    let at = sym (ap (λ joins. slice_get joins (c.args.of_both.now.places - c.args.of_left.now.places - c.args.of_right.now.places)) c.as_slice.ensures) ∙ sym c.join_at.ensures ∙ ap option_copied c.in_ok-join.was in
+    c.by_join.ensures ∙ is_by c.args.problem.now.joins c.requires.sets c.args.left c.args.right c.requires.apart c.args.of_left.now c.args.of_right.now c.args.of_both.now c.requires.left c.requires.right c.requires.both c.if-not-of_left.false c.if-not-of_right.false c.requires.joinable c.if-new-eq0.false (λ more. omega (arith, more, c.if-new-gt1.false)) c.in_ok-join.join.now at
 
-pub returns-in-None : goal.returns-in-None
-returns-in-None c =
-    let at = sym (ap (λ joins. slice_get joins (c.args.of_both.now.places - c.args.of_left.now.places - c.args.of_right.now.places)) c.as_slice.ensures) ∙ sym c.join_at.ensures ∙ ap option_copied c.in-None.is in
+pub returns-in_err-join : goal.returns-in_err-join
+returns-in_err-join c =
+    let at = sym (ap (λ joins. slice_get joins (c.args.of_both.now.places - c.args.of_left.now.places - c.args.of_right.now.places)) c.as_slice.ensures) ∙ sym c.join_at.ensures ∙ ap option_copied c.in_err-join.was in
     absurd (not_none c.args.problem.now.joins c.requires.sets c.args.left c.args.right c.requires.apart c.args.of_left.now c.args.of_right.now c.args.of_both.now c.requires.left c.requires.right c.requires.both c.if-not-of_left.false c.if-not-of_right.false c.requires.joinable c.if-new-eq0.false (λ more. omega (arith, more, c.if-new-gt1.false)) at)

@@ -2,22 +2,16 @@ use Rattle.std.proofs.Common.{◌∙◌, sym}
 use Rattle.jp_search.proofs.SplitLaws.{all_there, no_right, no_left, no_step}
 use Rattle.jp_search.proofs.splits.split.Goals as goal
 
-pub kind_of-requires-clause-left : goal.kind_of-requires-clause-left
-kind_of-requires-clause-left c = c.requires.left_told.facts c.in-Some.a (sym c.entry.ensures ∙ c.in-Some.is)
+pub returns-in_err-a : goal.returns-in_err-a
+returns-in_err-a c = c.from_residual.ensures ∙ no_left c.args.problem.now c.args.table.now c.args.left c.args.right (sym c.entry.ensures ∙ c.in_err-a.was)
 
-pub kind_of-requires-clause-right : goal.kind_of-requires-clause-right
-kind_of-requires-clause-right c = c.requires.right_told.facts c.in-Some-entry.b (sym c.entry-in-Some.ensures ∙ c.in-Some-entry.is)
+pub returns-in_err-b : goal.returns-in_err-b
+returns-in_err-b c = c.from_residual-in_err-b.ensures ∙ no_right c.args.problem.now c.args.table.now c.args.left c.args.right (sym c.entry-2.ensures ∙ c.in_err-b.was)
 
-pub returns-in-Some-kind_of : goal.returns-in-Some-kind_of
-returns-in-Some-kind_of c =
-    all_there c.args.problem.now c.args.table.now c.args.left c.args.right c.in-Some-kind_of.kind c.in-Some.a c.in-Some-entry.b c.step.result
-    (sym c.kind_of.ensures ∙ c.in-Some-kind_of.is) (sym c.entry.ensures ∙ c.in-Some.is) (sym c.entry-in-Some.ensures ∙ c.in-Some-entry.is) c.step.ensures
+pub returns-in_err-kind : goal.returns-in_err-kind
+returns-in_err-kind c = c.from_residual-in_err-kind.ensures ∙ no_step c.args.problem.now c.args.table.now c.args.left c.args.right (sym c.kind_of.ensures ∙ c.in_err-kind.was)
 
-pub returns-in-None-kind_of : goal.returns-in-None-kind_of
-returns-in-None-kind_of c = no_step c.args.problem.now c.args.table.now c.args.left c.args.right (sym c.kind_of.ensures ∙ c.in-None-kind_of.is)
-
-pub returns-in-None-entry : goal.returns-in-None-entry
-returns-in-None-entry c = no_right c.args.problem.now c.args.table.now c.args.left c.args.right (sym c.entry-in-Some.ensures ∙ c.in-None-entry.is)
-
-pub returns-in-None : goal.returns-in-None
-returns-in-None c = no_left c.args.problem.now c.args.table.now c.args.left c.args.right (sym c.entry.ensures ∙ c.in-None.is)
+pub returns : goal.returns
+returns c =
+    all_there c.args.problem.now c.args.table.now c.args.left c.args.right c.in_ok-kind.kind c.in_ok-a.a c.in_ok-b.b c.step.result
+    (sym c.kind_of.ensures ∙ c.in_ok-kind.was) (sym c.entry.ensures ∙ c.in_ok-a.was) (sym c.entry-2.ensures ∙ c.in_ok-b.was) c.step.ensures
