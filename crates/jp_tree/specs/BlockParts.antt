@@ -5,41 +5,32 @@ use Rattle.std.specs.List.{flat_map}
 use Rattle.jp_base.specs.Sets.{Has}
 use Rattle.jp_base.specs.declared.values.Ty.{Ty}
 use Rattle.jp_query.specs.declared.Expr.TheFolds.{fold-Expr, para-Expr}
-use Rattle.jp_query.specs.declared.Order.{Order, out-Order}
 use Rattle.jp_query.specs.declared.Output.{Output, out-Output}
 use Rattle.jp_query.specs.declared.Expr.{Expr}
 use Rattle.jp_query.specs.declared.Expr.TheOpen.{Expr-F}
 use Rattle.jp_query.specs.Outermost.{Outer, Outers, Level, outers_in, outermost}
 use Rattle.jp_query.specs.Parts.{all_in, parts, ColumnRef, node_column, node_placeholder}
-use Rattle.jp_problem.specs.declared.types.Clause.{Clause}
 use Rattle.jp_problem.specs.declared.types.Item.{Item}
 use Rattle.jp_problem.specs.declared.types.ItemKind.{ItemKind}
 use Rattle.jp_problem.specs.declared.types.ItemKind.TheVariants as kind
+use Rattle.jp_problem.specs.Blocks.{output_expr, order_expr}
+use Rattle.jp_problem.specs.StepClauses.{expr_of}
 use Rattle.jp_problem.specs.Made.{exprs_of, item_exprs, join_exprs}
 use Rattle.jp_tree.specs.declared.prepared.Block.{Block}
 use Rattle.jp_tree.specs.declared.prepared.Prepared.{Prepared}
 
 -- ---- expressions
 
-abbrev pub output_expr : Output → Expr
-output_expr output = (out-Output output).expr
-
 abbrev pub output_ty : Output → Ty
 output_ty output = (out-Output output).ty
-
-abbrev pub order_expr : Order → Expr
-order_expr order = (out-Order order).expr
 
 -- those of its problem, its outputs and its ORDER BY
 abbrev pub exprs_in : Block → List Expr
 exprs_in block = exprs_of block.problem ++ (map output_expr block.columns ++ map order_expr block.order)
 
-abbrev pub clause_expr : Clause → Expr
-clause_expr clause = clause.expr
-
 -- its clauses, and the members of its ON lists
 abbrev pub conditions_in : Block → List Expr
-conditions_in block = map clause_expr block.problem.clauses ++ (flat_map join_exprs block.problem.joins ++ flat_map item_exprs block.problem.items)
+conditions_in block = map expr_of block.problem.clauses ++ (flat_map join_exprs block.problem.joins ++ flat_map item_exprs block.problem.items)
 
 -- ---- what an expression names, outside the queries of its sublinks
 

@@ -1,23 +1,23 @@
 -- When a planned statement is whole.
-use Rattle.std.specs.Prelude.{◌≡◌, ℕ, ◌<◌, ◌==◌, Bool, true, [], ◌∷◌, map, length, find, All, Contains, Option, Some, IsSome, slice_get}
+use Rattle.std.specs.Prelude.{◌≡◌, ℕ, ◌<◌, ◌==◌, Bool, [], ◌∷◌, map, length, find, All, Contains, Option, Some, IsSome, slice_get}
 use Rattle.jp_base.specs.Sets.{Has}
 use Rattle.jp_base.specs.declared.values.Ty.{Ty}
-use Rattle.jp_query.specs.declared.Expr.{Expr}
 use Rattle.jp_query.specs.declared.Output.{Output}
-use Rattle.jp_query.specs.Conditions.{judged_expr, keeps_bounds}
+use Rattle.jp_query.specs.Conditions.{IsBoundedExpr}
 use Rattle.jp_query.specs.Outermost.{Outer}
 use Rattle.jp_query.specs.Parts.{ColumnRef}
 use Rattle.jp_query.specs.Scopes.{Column, Schema, Scope, bound_of, columns_of_table, visible_columns}
 use Rattle.jp_query.specs.Typing.{IsTypedExpr, IsBoolean, type_of, typed_query}
 use Rattle.jp_problem.specs.declared.types.Item.{Item}
 use Rattle.jp_problem.specs.declared.types.ItemKind.TheVariants as kind
+use Rattle.jp_problem.specs.Blocks.{output_expr}
 use Rattle.jp_problem.specs.Made.{IsMade, IsSearchable}
 use Rattle.jp_problem.specs.Trees.{Tree, IsPlan}
 use Rattle.jp_tree.specs.declared.prepared.Block.{Block}
 use Rattle.jp_tree.specs.declared.prepared.Prepared.{Prepared}
 use Rattle.jp_tree.specs.declared.prepared.RelName.{RelName}
 use Rattle.jp_tree.specs.Pools.{IsTreeOf}
-use Rattle.jp_tree.specs.BlockParts.{exprs_in, conditions_in, output_expr, output_ty, columns_named, placeholders_named, sublinks_of, in_sublinks_of, HasRelation, item_blocks, IsBlockAt, IsOfSublink, IsOuterReference}
+use Rattle.jp_tree.specs.BlockParts.{exprs_in, conditions_in, output_ty, columns_named, placeholders_named, sublinks_of, in_sublinks_of, HasRelation, item_blocks, IsBlockAt, IsOfSublink, IsOuterReference}
 
 -- 1. Block 0 is there and refers to nothing outside.
 pub record HasStatement (prepared : Prepared) : Type 0 where
@@ -106,15 +106,12 @@ pub record Shows (schema : Schema) (prepared : Prepared) (scope : Scope) : Type 
   pub selects : (block : Block) (item : Item) (rel number : ℕ) (inner : Block) → Contains prepared.blocks block → Contains block.problem.items item → item.kind ≡ kind.Sub rel number
       → IsBlockAt prepared number inner → visible_columns scope rel ≡ map (output_column schema scope) inner.columns
 
-abbrev pub IsBoundedIn : Schema → Scope → Expr → Type 0
-IsBoundedIn schema scope e = (judged_expr schema keeps_bounds e).passes scope ≡ true
-
 abbrev pub HasItsType : Output → Type 0
 HasItsType output = type_of (output_expr output) ≡ Some (output_ty output)
 
 pub record IsTypedBlock (schema : Schema) (scope : Scope) (block : Block) : Type 0 where
   pub typed : All IsTypedExpr (exprs_in block)
-  pub bounded : All (IsBoundedIn schema scope) (exprs_in block)
+  pub bounded : All (IsBoundedExpr schema scope) (exprs_in block)
   pub outputs : All HasItsType block.columns
   pub conditions : All IsBoolean (conditions_in block)
 
