@@ -28,16 +28,16 @@ use Rattle.jp_search.proofs.NumberLaws.{of_one}
 use Rattle.jp_search.proofs.TableLaws.{has_span}
 use Rattle.jp_search_tests.specs.Plain.{IsTypedClause, IsPlainItem}
 
-abbrev plain : List Item → List Clause → Problem
+abbrev pub plain : List Item → List Clause → Problem
 plain items clauses = record { items = items; joins = []; clauses = clauses; classes = [] }
 
 -- ---- the tree that joins the items from left to right
 
-deep : ℕ → Tree
+unfoldable pub deep : ℕ → Tree
 deep zero = Scan 0
 deep (suc k) = Join Nest Inner (deep k) (Scan (suc k))
 
-deep_has : (k i : ℕ) → Has (set_of (deep k)) i ↔ (i < suc k)
+pub deep_has : (k i : ℕ) → Has (set_of (deep k)) i ↔ (i < suc k)
 unfolding deep
 deep_has zero i = (λ h. omega (arith, of_one 0 i h), λ low. subst (λ j. Has 1 j) (zero_is low) (bit_at-pow_same 0))
   where
@@ -85,7 +85,7 @@ module _ (items : List Item) (clauses : List Clause) where
 
 -- ---- what estimates ask
 
-no_exprs : (items : List Item) → All IsPlainItem items → flat_map item_exprs items ≡ []
+pub no_exprs : (items : List Item) → All IsPlainItem items → flat_map item_exprs items ≡ []
 no_exprs [] all = refl
 no_exprs (item ∷ items) all = ap₂ (λ xs ys. xs ++ ys) (ap on_of_item (All-head IsPlainItem item items all).kind) (no_exprs items (All-tail IsPlainItem item items all))
 
@@ -93,7 +93,7 @@ no_exprs (item ∷ items) all = ap₂ (λ xs ys. xs ++ ys) (ap on_of_item (All-h
 pub typed_equality : (left right : ℕ) → left < 64 → right < 64 → IsTypedExpr (equals (col left 0) (col right 0))
 typed_equality left right low low' = simp (folds, lt-ltb left 64 low, lt-ltb right 64 low') refl
 
-all_more : {X : Type 0} (P : X → Type 0) (x : X) (xs : List X) → P x → All P xs → All P (x ∷ xs)
+pub all_more : {X : Type 0} (P : X → Type 0) (x : X) (xs : List X) → P x → All P xs → All P (x ∷ xs)
 all_more P x xs p all zero d low = p
 all_more P x xs p all (suc k) d low = all k d (omega (arith, low))
 
@@ -101,11 +101,11 @@ clause_exprs : (clauses : List Clause) → All IsTypedClause clauses → All IsT
 clause_exprs [] all = λ k d low. absurd (omega (arith, low))
 clause_exprs (clause ∷ clauses) all = all_more IsTypedExpr clause.expr (map expr_of clauses) (All-head IsTypedClause clause clauses all) (clause_exprs clauses (All-tail IsTypedClause clause clauses all))
 
-no_costs : (items : List Item) → All IsPlainItem items → sum_by cost_of items ≡ 0
+pub no_costs : (items : List Item) → All IsPlainItem items → sum_by cost_of items ≡ 0
 no_costs [] all = refl
 no_costs (item ∷ items) all = sum_by-cons cost_of item items ∙ ap₂ (λ m n. m + n) (All-head IsPlainItem item items all).cost (no_costs items (All-tail IsPlainItem item items all))
 
-all_items : (items : List Item) (clauses : List Clause) → 1 ≤ length items → set_of (deep (length items - 1)) ≡ items_of (plain items clauses)
+pub all_items : (items : List Item) (clauses : List Clause) → 1 ≤ length items → set_of (deep (length items - 1)) ≡ items_of (plain items clauses)
 all_items items clauses some = same_set (set_of (deep (length items - 1))) (items_of (plain items clauses)) (λ i. (
   λ h. (has_span 0 (length items) i).1 (omega arith, omega (arith, (deep_has (length items - 1) i).0 h, some)),
   λ h. (deep_has (length items - 1) i).1 (omega (arith, ((has_span 0 (length items) i).0 h).1, some)),

@@ -32,7 +32,7 @@ pub fn plain_problem(
     })
 }
 
-fn plain_items(alloc: Global, rows: &[u64]) -> Result<Items<Item>, Memory>
+pub(crate) fn plain_items(alloc: Global, rows: &[u64]) -> Result<Items<Item>, Memory>
     requires few { length rows.now ≤ 16 }
     requires rows { All HasRows rows.now }
     ensures count { IfOk result (λ items. length items ≡ length rows.now) }
