@@ -1,1 +1,4 @@
+pub mod BlockParts
+pub mod Examples
 pub mod Pools
+pub mod Prepared

@@ -1,0 +1,242 @@
+-- The first trees of the parts give the first tree of each split, and the best split gives that of the set.
+use Rattle.std.proofs.Common.{◌≡◌, ◌∙◌, sym, ap, ap₂, subst, subst₂, refl, ℕ, ◌+◌, ◌^◌, ◌<◌, ◌≤◌, inl, inr, arith, List, Option, Some, None}
+use Rattle.std.specs.Prelude.{bit_or}
+use Rattle.jp_base.specs.Sets.{Has, Within}
+use Rattle.jp_base.proofs.MaskAlgebra.{in_left}
+use Rattle.jp_problem.specs.declared.types.Problem.{Problem}
+use Rattle.jp_problem.specs.declared.types.Method.{Method}
+use Rattle.jp_problem.specs.declared.types.Method.TheVariants.{Nest}
+use Rattle.jp_problem.specs.declared.types.Step.{Step}
+use Rattle.jp_problem.specs.Legal.{IsLegalStep}
+use Rattle.jp_problem.specs.LegalTests.{step_of}
+use Rattle.jp_problem.specs.Sets.{without}
+use Rattle.jp_problem.specs.Trees.{Tree, Scan, Join, set_of, IsLegalTree}
+use Rattle.jp_problem.proofs.LegalLaws.{step_says}
+use Rattle.jp_cost.specs.Costs.{cost}
+use Rattle.jp_cost.specs.Estimates.{estimate}
+use Rattle.jp_tree.specs.declared.pool.PlanNode.{PlanNode}
+use Rattle.jp_search.specs.declared.table.Choice.{Choice}
+use Rattle.jp_search.specs.declared.table.Found.{Found}
+use Rattle.jp_search.specs.Entries.{IsEntry, Knows}
+use Rattle.jp_search.specs.Splits.{IsPartAbove, IsLeastAbove, at_part, stepped}
+use Rattle.jp_search.specs.Tables.{entry_at}
+use Rattle.jp_search.specs.TreeCosts.{tree_cost}
+use Rattle.std.proofs.lemmas.Bool.{cases_lt}
+use Rattle.jp_search.specs.TreeOrder.{ComesBefore, Then, IsFirst, OnlyNests}
+use Rattle.jp_search.proofs.PartLaws.{part_and_rest, rest_is, part_below, other_below, positive, rest_below}
+use Rattle.jp_search.proofs.SplitLaws.{IsOf, made_of, all_there}
+use Rattle.jp_search.proofs.TreeLaws.{IsTreeBy, tree_item}
+
+-- the left set of the root; of a scan none
+abbrev left_of : Tree → ℕ
+left_of (Scan i) = 0
+left_of (Join method kind left right) = set_of left
+
+none_some : {X : Type 0} (x : X) → None ≡ Some x → ⊥
+none_some x e = cc
+
+-- a legal tree of the set by Nest alone
+record IsCandidate (problem : Problem) (set : ℕ) (t : Tree) : Type 0 where
+  pub legal : IsLegalTree problem t
+  pub nests : OnlyNests t
+  pub covers : set_of t ≡ set
+
+pub by_cost : (problem : Problem) (a b : Tree) → tree_cost problem a < tree_cost problem b → ComesBefore problem a b
+by_cost problem (Join m k a b) (Join n l c d) less = inl less
+by_cost problem (Join m k a b) (Scan i) less = less
+by_cost problem (Scan i) (Join n l c d) less = less
+by_cost problem (Scan i) (Scan k) less = less
+
+pub at_most : (problem : Problem) (a b : Tree) → ComesBefore problem a b → tree_cost problem a ≤ tree_cost problem b
+at_most problem (Join m k a b) (Join n l c d) (inl less) = omega (arith, less)
+at_most problem (Join m k a b) (Join n l c d) (inr more) = omega (arith, more.0)
+at_most problem (Join m k a b) (Scan i) less = omega (arith, less)
+at_most problem (Scan i) (Join n l c d) less = omega (arith, less)
+at_most problem (Scan i) (Scan k) less = omega (arith, less)
+
+-- at equal costs the left sets tell, where they differ
+left_at_most : (problem : Problem) (a b : Tree) → ComesBefore problem a b → tree_cost problem a ≡ tree_cost problem b → left_of a ≤ left_of b
+left_at_most problem (Join m k a b) (Join n l c d) (inl less) same = absurd (omega (arith, less, same))
+left_at_most problem (Join m k a b) (Join n l c d) (inr (tie, inl less)) same = omega (arith, less)
+left_at_most problem (Join m k a b) (Join n l c d) (inr (tie, inr more)) same = omega (arith, more.0)
+left_at_most problem (Join m k a b) (Scan i) less same = absurd (omega (arith, less, same))
+left_at_most problem (Scan i) (Join n l c d) less same = absurd (omega (arith, less, same))
+left_at_most problem (Scan i) (Scan k) less same = absurd (omega (arith, less, same))
+
+costs : (c d a b s r : ℕ) → s ≡ r → c + d + s < a + b + r → ¬ (c < a) → ¬ (d < b) → ⊥
+costs c d a b s r same less not_c not_d = elim (cases_lt c a) [ inl p ↦ not_c p | inr p ↦ elim (cases_lt d b) [ inl q ↦ not_d q | inr q ↦ omega (arith, same, less, p, q) ] ]
+
+-- a step of the first trees of two sets is before each step of trees of these sets
+module _ (problem : Problem) (kind : Step) (p q : ℕ) (a b : Tree) (first_a : IsFirst problem p a) (first_b : IsFirst problem q b) where
+  none_before : (l : Step) (c d : Tree) → IsCandidate problem p c → IsCandidate problem q d → ¬ ComesBefore problem (Join Nest l c d) (Join Nest kind a b)
+  none_before l c d on_c on_d before = elim before [
+    | inl cheaper ↦ costs (tree_cost problem c) (tree_cost problem d) (tree_cost problem a) (tree_cost problem b) step step' same cheaper not_c not_d
+    | inr (same_cost, inl less) ↦ omega (arith, less, on_c.covers, first_a.covers)
+    | inr (same_cost, inr (same_left, inl less)) ↦ omega (arith, less)
+    | inr (same_cost, inr (same_left, inr (same_method, inl left_before))) ↦ first_a.first c on_c.legal on_c.nests on_c.covers left_before
+    | inr (same_cost, inr (same_left, inr (same_method, inr (same_tree, right_before)))) ↦ first_b.first d on_d.legal on_d.nests on_d.covers right_before
+  ]
+    where
+      step : ℕ
+      step = cost Nest (estimate problem (set_of c)) (estimate problem (set_of d))
+
+      step' : ℕ
+      step' = cost Nest (estimate problem (set_of a)) (estimate problem (set_of b))
+
+      same : step ≡ step'
+      same = ap₂ (λ x y. cost Nest (estimate problem x) (estimate problem y)) (on_c.covers ∙ sym first_a.covers) (on_d.covers ∙ sym first_b.covers)
+
+      not_c : ¬ (tree_cost problem c < tree_cost problem a)
+      not_c less = first_a.first c on_c.legal on_c.nests on_c.covers (by_cost problem c a less)
+
+      not_d : ¬ (tree_cost problem d < tree_cost problem b)
+      not_d less = first_b.first d on_d.legal on_d.nests on_d.covers (by_cost problem d b less)
+
+-- ---- the splits of a set, whose parts are known
+
+module _ (problem : Problem) (nodes : List PlanNode) (entries : List (Option Found)) (set : ℕ) (knows : Knows problem nodes entries set) where
+  -- the first tree of those with this left set at the root
+  record IsBestAt (p : ℕ) (c : Choice) (t : Tree) : Type 0 where
+    pub by : IsTreeBy nodes c.node t
+    pub candidate : IsCandidate problem set t
+    pub cost : c.cost ≡ tree_cost problem t
+    pub at : left_of t ≡ p
+    pub first : (other : Tree) → IsCandidate problem set other → left_of other ≡ p → ¬ ComesBefore problem other t
+
+  known_at : (part : ℕ) (found : Found) → part < set → entry_at entries part ≡ Some found → IsEntry problem nodes part (Some found)
+  known_at part found below e = subst (IsEntry problem nodes part) e (knows.known part below)
+
+  unknown_at : (part : ℕ) → part < set → entry_at entries part ≡ None → IsEntry problem nodes part None
+  unknown_at part below e = subst (IsEntry problem nodes part) e (knows.known part below)
+
+  best_at : (p : ℕ) (c : Choice) → IsPartAbove set 0 p → at_part problem entries set p ≡ Some c → (t : Tree) × IsBestAt p c t
+  best_at p c part e = (
+    Join Nest kind a b,
+    record {
+      by = subst (λ (d : Choice). IsTreeBy nodes d.node (Join Nest kind a b)) (sym split.is) (a, b, left.1, right.1, refl);
+      candidate = record {
+        legal = (subst (λ x. IsLegalStep problem x (set_of b) kind) (sym first_a.covers) (subst (λ y. IsLegalStep problem p y kind) (sym first_b.covers) step), tt, first_a.legal, first_b.legal);
+        nests = (refl, first_a.nests, first_b.nests);
+        covers = ap₂ bit_or first_a.covers first_b.covers ∙ part_and_rest set p part.within;
+      };
+      cost = ap (λ (d : Choice). d.cost) split.is ∙ ap₂ (λ x y. x + y) (ap₂ (λ x y. x + y) left.3 right.3) (ap₂ (cost Nest) (left.4 ∙ ap (estimate problem) (sym first_a.covers)) (right.4 ∙ ap (estimate problem) (sym first_b.covers)));
+      at = first_a.covers;
+      first = first;
+    },
+  )
+    where
+      q : ℕ
+      q = without set p
+
+      split : IsOf problem entries p q c
+      split = made_of problem entries p q c e
+
+      kind : Step
+      kind = split.kind
+
+      step : IsLegalStep problem p q kind
+      step = (step_says problem p q kind).0 split.legal
+
+      left : IsEntry problem nodes p (Some split.left_tree)
+      left = known_at p split.left_tree part.below split.on_left
+
+      right : IsEntry problem nodes q (Some split.right_tree)
+      right = known_at q split.right_tree (rest_below set p part.above part.within) split.on_right
+
+      a : Tree
+      a = left.0
+
+      b : Tree
+      b = right.0
+
+      first_a : IsFirst problem p a
+      first_a = left.2
+
+      first_b : IsFirst problem q b
+      first_b = right.2
+
+      first : (other : Tree) → IsCandidate problem set other → left_of other ≡ p → ¬ ComesBefore problem other (Join Nest kind a b)
+      first (Scan i) is at before = omega (arith, at, part.above)
+      first (Join m l c d) is at before =
+          none_before problem kind p q a b first_a first_b l c d
+          (record { legal = is.legal.2; nests = is.nests.1; covers = at })
+          (record { legal = is.legal.3; nests = is.nests.2; covers = rest_is (set_of c) (set_of d) is.legal.0.step.apart ∙ ap₂ without is.covers at })
+          (subst (λ n. ComesBefore problem (Join n l c d) (Join Nest kind a b)) is.nests.0 before)
+
+  -- each tree that is no scan comes from a split
+  split_by : (m : Method) (l : Step) (a b : Tree) → IsCandidate problem set (Join m l a b) → IsPartAbove set 0 (set_of a) × ((c : Choice) × (at_part problem entries set (set_of a) ≡ Some c))
+  split_by m l a b is = (part, found (entry_at entries (set_of a)) (entry_at entries rest) refl refl)
+    where
+      step : IsLegalStep problem (set_of a) (set_of b) l
+      step = is.legal.0
+
+      item_a : (i : ℕ) × Has (set_of a) i
+      item_a = tree_item problem a is.legal.2
+
+      item_b : (i : ℕ) × Has (set_of b) i
+      item_b = tree_item problem b is.legal.3
+
+      rest : ℕ
+      rest = without set (set_of a)
+
+      rest_same : set_of b ≡ rest
+      rest_same = rest_is (set_of a) (set_of b) step.step.apart ∙ ap (λ s. without s (set_of a)) is.covers
+
+      part : IsPartAbove set 0 (set_of a)
+      part = record {
+        within = subst (Within (set_of a)) is.covers (in_left (set_of a) (set_of b));
+        above = positive (set_of a) item_a.0 item_a.1;
+        below = subst (λ s. set_of a < s) is.covers (part_below (set_of a) (set_of b) item_b.0 step.step.apart item_b.1);
+      }
+
+      below_b : rest < set
+      below_b = subst₂ (λ r s. r < s) rest_same is.covers (other_below (set_of a) (set_of b) item_a.0 step.step.apart item_a.1)
+
+      computed : step_of problem.joins (set_of a) rest ≡ Some l
+      computed = (step_says problem (set_of a) rest l).1 (subst (λ r. IsLegalStep problem (set_of a) r l) rest_same step)
+
+      found : (x y : Option Found) → entry_at entries (set_of a) ≡ x → entry_at entries rest ≡ y → (c : Choice) × (at_part problem entries set (set_of a) ≡ Some c)
+      found (Some f) (Some g) is_x is_y = (stepped l f g, sym (all_there problem entries (set_of a) rest l f g (stepped l f g) computed is_x is_y refl))
+      found (Some f) None is_x is_y = absurd (unknown_at rest below_b is_y b is.legal.3 is.nests.2 rest_same)
+      found None y is_x is_y = absurd (unknown_at (set_of a) part.below is_x a is.legal.2 is.nests.1 refl)
+
+  -- of a set of several items
+  module _ (several : (i : ℕ) → ¬ (set ≡ 2 ^ i)) where
+    pub no_tree : IsLeastAbove problem entries set 0 None → IsEntry problem nodes set None
+    no_tree none (Scan i) legal nests covers = several i (sym covers)
+    no_tree none (Join m l a b) legal nests covers =
+        let split = split_by m l a b (record { legal = legal; nests = nests; covers = covers }) in
+        none_some split.1.0 (sym (none (set_of a) split.0) ∙ split.1.1)
+
+    -- the best split gives the first tree
+    pub first_tree : (c : Choice) → IsLeastAbove problem entries set 0 (Some c) → (t : Tree) × IsTreeBy nodes c.node t × IsFirst problem set t × (c.cost ≡ tree_cost problem t)
+    first_tree c (p, part, e, least) = (t, best.by, record { legal = best.candidate.legal; nests = best.candidate.nests; covers = best.candidate.covers; first = first }, best.cost)
+      where
+        t : Tree
+        t = (best_at p c part e).0
+
+        best : IsBestAt p c t
+        best = (best_at p c part e).1
+
+        -- against the best tree with the same left set
+        against : (other : Tree) (q : ℕ) (d : Choice) (u : Tree) → IsCandidate problem set other → left_of other ≡ q → IsBestAt q d u → Then c.cost d.cost (p ≤ q) → ¬ ComesBefore problem other t
+        against other q d u is at best_u (inl less) before =
+            elim (cases_lt (tree_cost problem other) (tree_cost problem u)) [
+              | inl cheaper ↦ best_u.first other is at (by_cost problem other u cheaper)
+              | inr no_less ↦ omega (arith, no_less, less, at_most problem other t before, best.cost, best_u.cost)
+            ]
+        against other q d u is at best_u (inr (tie, before_q)) before =
+            elim (cases_lt (tree_cost problem other) (tree_cost problem u)) [
+              | inl cheaper ↦ best_u.first other is at (by_cost problem other u cheaper)
+              | inr no_less ↦
+                  let same : tree_cost problem other ≡ tree_cost problem t = omega (arith, no_less, tie, at_most problem other t before, best.cost, best_u.cost) in
+                  best.first other is (omega (arith, left_at_most problem other t before same, before_q, at, best.at)) before
+            ]
+
+        first : (other : Tree) → IsLegalTree problem other → OnlyNests other → set_of other ≡ set → ¬ ComesBefore problem other t
+        first (Scan i) legal nests covers before = several i (sym covers)
+        first (Join m l a b) legal nests covers before =
+            let is : IsCandidate problem set (Join m l a b) = record { legal = legal; nests = nests; covers = covers } in
+            let split = split_by m l a b is in
+            let found = best_at (set_of a) split.1.0 split.0 split.1.1 in
+            against (Join m l a b) (set_of a) split.1.0 found.0 is refl found.1 (least (set_of a) split.1.0 split.0 split.1.1) before

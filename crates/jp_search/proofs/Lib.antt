@@ -1,0 +1,11 @@
+pub mod CostLaws
+pub mod CountLaws
+pub mod EntryLaws
+pub mod FirstLaws
+pub mod JoinLaws
+pub mod NumberLaws
+pub mod OrderLaws
+pub mod PartLaws
+pub mod SplitLaws
+pub mod TableLaws
+pub mod TreeLaws

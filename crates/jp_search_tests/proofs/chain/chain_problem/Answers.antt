@@ -1,0 +1,9 @@
+use Rattle.std.proofs.Common.{◌∙◌, ◌≤◌, sym, subst}
+use Rattle.jp_search_tests.proofs.ChainLaws.{chain_made}
+use Rattle.jp_search_tests.proofs.chain.chain_problem.Goals as goal
+
+pub returns : goal.returns
+returns c =
+    chain_made c.in_ok-items.items c.in_ok-joins.joins c.new.result c.new-2.result c.new.ensures c.new-2.ensures
+    (subst (λ n. 1 ≤ n) (sym c.in_ok-items.ensures.count) c.requires.some) (subst (λ n. n ≤ 16) (sym c.in_ok-items.ensures.count) c.requires.few)
+    (c.in_ok-joins.ensures.count ∙ sym c.in_ok-items.ensures.count) c.in_ok-items.ensures.plain c.in_ok-joins.ensures.chain
