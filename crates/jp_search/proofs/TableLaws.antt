@@ -18,7 +18,8 @@ use Rattle.jp_tree.specs.Pools.{IsTreeOf}
 use Rattle.jp_tree.proofs.PoolLaws.{tree_stays, same_tree}
 use Rattle.jp_search.specs.declared.table.Found.{Found}
 use Rattle.jp_search.specs.Counts.{parts_of, parts_below}
-use Rattle.jp_search.specs.Entries.{IsEntry, Knows, GrowsTo}
+use Rattle.jp_tree.specs.Pools.{GrowsTo}
+use Rattle.jp_search.specs.Entries.{IsEntry, Knows}
 use Rattle.jp_search.specs.Tables.{entry_at}
 use Rattle.jp_search.specs.TreeOrder.{ComesBefore, OnlyNests}
 use Rattle.jp_search.proofs.NumberLaws.{of_one}

@@ -1,5 +1,5 @@
 -- What the table knows.
-use Rattle.std.specs.Prelude.{◌≡◌, ℕ, ◌<◌, List, ◌++◌, Option, Some, None}
+use Rattle.std.specs.Prelude.{◌≡◌, ℕ, ◌<◌, List, Option, Some, None}
 use Rattle.jp_problem.specs.declared.types.Problem.{Problem}
 use Rattle.jp_problem.specs.Trees.{Tree, IsLegalTree, set_of}
 use Rattle.jp_cost.specs.Estimates.{estimate}
@@ -19,7 +19,3 @@ IsEntry problem nodes set (Some found) = (tree : Tree) × IsTreeOf nodes found.p
 -- the entries of all sets below this one as numbers are theirs
 pub record Knows (problem : Problem) (nodes : List PlanNode) (entries : List (Option Found)) (below : ℕ) : Type 0 where
   pub known : (set : ℕ) → set < below → IsEntry problem nodes set (entry_at entries set)
-
--- the earlier nodes stay, before others
-abbrev pub GrowsTo : List PlanNode → List PlanNode → Type 0
-GrowsTo old new = (more : List PlanNode) × (new ≡ old ++ more)

@@ -1,9 +1,9 @@
 ghost use Rattle.std.specs.Prelude.{◌≡◌, ℕ, ◌+◌, ◌<◌, ◌≤◌, ◌^◌, ◌∷◌, ◌++◌, [], length, IfOk, OnErr, Some, None};
 ghost use Rattle.jp_problem.specs.Made.{IsSearchable};
 ghost use Rattle.jp_problem.specs.Trees.{Tree, IsPlan};
-ghost use Rattle.jp_tree.specs.Pools.{HasChildrenBelow, IsTreeOf};
+ghost use Rattle.jp_tree.specs.Pools.{GrowsTo, HasChildrenBelow, IsTreeOf};
 ghost use Rattle.jp_search.specs.Counts.{parts_below, parts_of};
-ghost use Rattle.jp_search.specs.Entries.{GrowsTo, IsEntry, Knows};
+ghost use Rattle.jp_search.specs.Entries.{IsEntry, Knows};
 ghost use Rattle.jp_search.specs.Tables.{entry_at};
 ghost use Rattle.jp_search.specs.TreeOrder.{ComesBefore, OnlyNests};
 
@@ -21,9 +21,9 @@ use std::sync::ledger::Ledger;
 
 /// The first of the legal trees of all items, as a number in the pool. Trees are ordered by cost, then by the left set of
 /// the root as a number, then by method, then by the left tree, then by the right tree (PostgreSQL's
-/// `standard_join_search` also looks for the cheapest, by levels; the order here is this product's own). The memory that
-/// it takes is one entry and one node of the pool for each set of items, before the first counted step; a step is one
-/// split of a set into a left and a right part that is looked at.
+/// `standard_join_search` also looks for the cheapest, by levels; the order here is this product's own). So far trees of
+/// nested loops alone are looked at. The memory that it takes is one entry and one node of the pool for each set of
+/// items, before the first counted step; a step is one split of a set into a left and a right part that is looked at.
 pub fn best<L: Ledger>(
     alloc: Global,
     problem: &Problem,

@@ -1,5 +1,5 @@
 -- Plan nodes by number, and the trees that the numbers name.
-use Rattle.std.specs.Prelude.{◌≡◌, ◌<◌, ℕ, ⊤, List, length, get_or, slice_get, Some}
+use Rattle.std.specs.Prelude.{◌≡◌, ◌<◌, ℕ, ⊤, List, ◌++◌, length, get_or, slice_get, Some}
 use Rattle.jp_problem.specs.Trees.{Tree}
 use Rattle.jp_problem.specs.Trees as tree
 use Rattle.jp_tree.specs.declared.pool.PlanNode.{PlanNode}
@@ -22,3 +22,7 @@ IsPool nodes = (i : ℕ) (d : PlanNode) → i < length nodes → HasChildrenBelo
 abbrev pub IsTreeOf : List PlanNode → ℕ → Tree → Type 0
 IsTreeOf nodes id (tree.Scan item) = slice_get nodes id ≡ Some (Scan item)
 IsTreeOf nodes id (tree.Join method step left right) = (l : ℕ) × (r : ℕ) × (slice_get nodes id ≡ Some (Join method step l r)) × IsTreeOf nodes l left × IsTreeOf nodes r right
+
+-- the earlier nodes stay, before others
+abbrev pub GrowsTo : List PlanNode → List PlanNode → Type 0
+GrowsTo old new = (more : List PlanNode) × (new ≡ old ++ more)

@@ -1,6 +1,7 @@
 use Rattle.std.proofs.Common.{◌≡◌, ◌+◌, ◌≤◌, length}
 use Rattle.jp_search.specs.Counts.{parts_below}
-use Rattle.jp_search.specs.Entries.{GrowsTo, Knows}
+use Rattle.jp_tree.specs.Pools.{GrowsTo}
+use Rattle.jp_search.specs.Entries.{Knows}
 use Rattle.jp_search.proofs.search.fill.Given as goal
 
 abbrev pub invariant-sets : goal.invariant-sets
