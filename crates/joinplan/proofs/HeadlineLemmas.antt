@@ -5,26 +5,24 @@ use Rattle.std.proofs.lemmas.Option.{slice_get_within}
 use Rattle.std.proofs.lemmas.Bool.{cases_Bool, leb-true}
 use Rattle.std.proofs.lemmas.List.{append-nil, length-map}
 use Rattle.std.proofs.lemmas.List.Elements.{All-append, All-nil, All-weaker}
-use Rattle.jp_catalog.specs.Reading.{Read, catalogue_of}
+use Rattle.jp_catalog.specs.Reading.{catalogue_of}
 use Rattle.jp_catalog.specs.declared.types.Catalog.{Catalog}
 use Rattle.jp_io.specs.Sinks.{TookMore}
 use Rattle.jp_query.specs.Tables.{TableRows, IsLoaded, rows_of_tables}
-use Rattle.jp_query.specs.InOrder.{IsInOrder}
 use Rattle.jp_query.specs.Meaning.{no_outer_rows, meaning}
 use Rattle.jp_query.specs.Mentions.{tables_mentioned}
 use Rattle.jp_laws.proofs.OrderedRows.{rows_in_order}
 use Rattle.jp_lex.specs.Answer as cutting
 use Rattle.jp_lex.specs.Cutting.{Bytes, Refused, Tokens}
-use Rattle.jp_ast.specs.declared.tree.Stmt.{Stmt}
 use Rattle.jp_query.specs.declared.Query.{Query}
 use Rattle.jp_query.specs.Parts.{tables_in}
-use Rattle.jp_table.specs.Loading.{Judged, table_of}
+use Rattle.jp_table.specs.Loading.{table_of}
 use Rattle.jp_resolution.specs.Resolving.{resolved}
 use Rattle.joinplan.specs.declared.refusal.Refusal.{Refusal}
 use Rattle.joinplan.specs.declared.refusal.Refusal.TheVariants as refusal
 use Rattle.joinplan.specs.Refusals.{resolve_refusal}
-use Rattle.joinplan.specs.Answers.{NamedTable, Rows, answer_in, answer_of, catalogue_in, catalogue_or_refuse, check_in, count_line, counts_in, file_limit, none_loaded, output_in, query_in, query_of, read_into, rows_or_refuse, run_in, selected_in, source_in, statement_in, statement_limit, statement_of, table_in, tables_read, text_in, with_count, with_table}
-use Rattle.joinplan.specs.Headline.{AreCounted, HasCatalogue, HasPlace, HasRows, HasTables, IsAnswerTo, IsCount, IsHeld, IsInItsOrder, IsMeaning, IsOrderedAnswer, PrintsAnswer, PrintsInOrder}
+use Rattle.joinplan.specs.Answers.{NamedTable, Rows, answer_in, answer_of, catalogue_in, check_in, count_line, counts_in, file_limit, none_loaded, output_in, query_in, query_of, read_into, run_in, selected_in, source_in, statement_in, statement_limit, table_in, tables_read, text_in, with_count, with_table}
+use Rattle.joinplan.specs.Headline.{AreCounted, HasCatalogue, HasPlace, HasRows, HasTables, IsAnswerTo, IsCount, IsHeld, IsInItsOrder, IsOrderedAnswer, PrintsAnswer, PrintsInOrder}
 use Rattle.joinplan.specs.Readings.{AgreesTold, Held, Reading, after, content_of, fold_in}
 use Rattle.joinplan.specs.Words.{Command, Run, Check, command_of}
 use Rattle.joinplan.proofs.StatementLemmas.{found, statement_found}

@@ -1,7 +1,7 @@
 -- Where the answer is an output, each file that it reads is there.
-use Rattle.std.proofs.Common.{◌≡◌, ◌∙◌, ap, sym, subst, refl, inl, inr, ◌⊎◌, ℕ, zero, suc, ◌<◌, Bool, true, List, [], ◌∷◌, ◌++◌, length, Option, Some, None, Result, Ok, Err, is_some, arith}
+use Rattle.std.proofs.Common.{◌≡◌, subst, refl, inl, inr, ℕ, true, List, [], ◌∷◌, Option, Some, None, Result, Ok, Err, is_some}
 use Rattle.std.specs.Prelude.{Contains, slice_get}
-use Rattle.jp_facts.proofs.Members.{In, to_in, from_in, from_append}
+use Rattle.jp_facts.proofs.Members.{In, to_in, from_append}
 use Rattle.jp_catalog.specs.declared.types.Catalog.{Catalog}
 use Rattle.jp_ast.specs.declared.tree.Stmt.{Stmt}
 use Rattle.jp_query.specs.Mentions.{tables_mentioned}
@@ -10,7 +10,7 @@ use Rattle.jp_query.specs.declared.Query.{Query}
 use Rattle.joinplan.specs.declared.refusal.Refusal.{Refusal}
 use Rattle.joinplan.specs.declared.refusal.Refusal.TheVariants as refusal
 use Rattle.joinplan.specs.Answers.{NamedTable, answer_in, answer_of, catalogue_in, check_in, counts_in, file_limit, none_loaded, output_in, query_in, query_of, read_into, run_in, selected_in, source_in, statement_in, statement_limit, table_in, tables_read, text_in, with_count, with_table}
-use Rattle.joinplan.specs.Readings.{Held, Reading, after, and_then, content_of, file_of, fold_in, known}
+use Rattle.joinplan.specs.Readings.{Held, Reading, after, content_of, fold_in}
 use Rattle.joinplan.specs.Words.{Command, Run, Check, command_of}
 
 module _ (held : Held) where

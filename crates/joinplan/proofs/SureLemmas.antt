@@ -1,12 +1,12 @@
 -- Where nothing fails, an output is served.
-use Rattle.std.proofs.Common.{◌≡◌, ◌≢◌, ◌∙◌, ap, sym, subst, refl, inl, inr, ◌⊎◌, ℕ, ◌<◌, ◌-◌, ◌^◌, Bool, true, List, length, Option, Some, None, Result, Ok, Err, Vec, Global, arith}
-use Rattle.std.specs.Prelude.{Contains, IfErr, IfOk, IfSome}
+use Rattle.std.proofs.Common.{◌≡◌, ◌≢◌, ◌∙◌, sym, subst, refl, inr, ℕ, ◌<◌, ◌-◌, ◌^◌, Bool, List, length, Option, Some, None, Result, Ok, Err, Vec, Global, arith}
+use Rattle.std.specs.Prelude.{Contains, IfOk, IfSome}
 use Rattle.jp_io.specs.Files.{Rose, StaysSound}
-use Rattle.jp_io.specs.Sinks.{HasRoom, TookMore}
+use Rattle.jp_io.specs.Sinks.{HasRoom}
 use Rattle.joinplan.specs.declared.refusal.Refusal.{Refusal}
 use Rattle.joinplan.specs.declared.refusal.Refusal.TheVariants as refusal
 use Rattle.joinplan.specs.Answers.{answer_of}
-use Rattle.joinplan.specs.Faults.{Counts, IsExplained}
+use Rattle.joinplan.specs.Faults.{Counts}
 use Rattle.joinplan.specs.Outcomes.{Answer, AreSure, IsComplete, IsCounted, IsServed, IsSurelyServed, NoFault, RoomServes, answer_told}
 use Rattle.joinplan.specs.Readings.{AgreesRefused, AgreesTold, Held}
 use Rattle.joinplan.specs.Refusals.{status_of}

@@ -1,8 +1,6 @@
-use Rattle.std.proofs.Common.{◌≡◌, ◌∙◌, Ok, Err, List, inr, subst, sym}
+use Rattle.std.proofs.Common.{Ok, Err, inr, subst}
 use Rattle.jp_ast.specs.Answer.{ParsedAs}
 use Rattle.jp_ast.specs.SeenTokens.{seen_tokens}
-use Rattle.jp_lex.specs.Cutting.{Tokens, lexemes}
-use Rattle.jp_lex.specs.declared.token.Token.{Token}
 use Rattle.joinplan.proofs.StatementLemmas.{grammar_read, grammar_refused, source_read}
 use Rattle.joinplan.proofs.statement.statement_of.Goals as goal
 

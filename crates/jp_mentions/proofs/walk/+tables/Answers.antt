@@ -1,7 +1,7 @@
-use Rattle.std.proofs.Common.{◌≡◌, ◌∙◌, ◌++◌, ap, sym, subst}
+use Rattle.std.proofs.Common.{◌≡◌, ◌∙◌, ◌++◌, ap, sym}
 use Rattle.std.specs.List.{flat_map}
 use Rattle.std.proofs.lemmas.List.{append-nil}
-use Rattle.jp_mentions.specs.Walk.{tables_of, tables_of_arm, tables_of_option, tables_of_order, tables_of_output}
+use Rattle.jp_mentions.specs.Walk.{tables_of_arm, tables_of_option, tables_of_order, tables_of_output}
 use Rattle.jp_mentions.proofs.TableLaws.{case_pushed, pushed_more, tables-Order, tables-Output}
 use Rattle.jp_mentions.proofs.walk.+tables.Goals as goal
 use Rattle.jp_mentions.proofs.walk.+tables.Goals.{push_expr-in-Some+in_ok-push_expr-in-Some, push_expr-in-None}
