@@ -1,4 +1,5 @@
 pub mod Blocks
+pub mod ClassWords
 pub mod Classes
 pub mod Closure
 pub mod Conditions
@@ -7,11 +8,12 @@ pub mod Examples
 pub mod InnerBlocks
 pub mod Keys
 pub mod Legal
-pub mod Made
 pub mod LegalTests
+pub mod Made
 pub mod MinimumSets
 pub mod Problems
 pub mod Sets
 pub mod Shapes
 pub mod StepClauses
+pub mod SublinkWords
 pub mod Trees
