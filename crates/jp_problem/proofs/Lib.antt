@@ -1,5 +1,6 @@
 pub mod ClosureLaws
 pub mod ExampleLaws
+pub mod KeyLaws
 pub mod LegalLaws
 pub mod PushLaws
 pub mod SetTests

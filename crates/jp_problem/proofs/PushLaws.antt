@@ -1,11 +1,11 @@
 -- The members of a class by their places, and as they are ranked.
-use Rattle.std.proofs.Common.{◌≡◌, ◌∙◌, ap, sym, refl, ℕ, zero, suc, ◌+◌, Bool, true, false, cond, List, [], ◌∷◌, ◌++◌, map, filter, length, drop, append_assoc, arith, Option, Some, None}
+use Rattle.std.proofs.Common.{◌≡◌, ◌∙◌, ap, sym, refl, ℕ, suc, ◌+◌, Bool, true, false, cond, List, [], ◌∷◌, ◌++◌, map, filter, length, drop, append_assoc, arith, Option, Some, None}
 use Rattle.std.specs.List.{position, position_from, slice_index_or}
 use Rattle.std.proofs.lemmas.Iterator.Adapters.{position_from-zero}
 use Rattle.jp_query.specs.declared.Expr.{Expr}
 use Rattle.jp_problem.specs.declared.types.Stage.{Stage}
 use Rattle.jp_problem.specs.ClassWords.{no_member, ranked_at, places_of, ups_from, needs_there, needs_before, needs_come_up, equal_to, link_of, linked_of}
-use Rattle.jp_problem.specs.StepClauses.{Ranked, ranked_from, is_there, was_there, comes_up, member_in, member_before, member_comes_up, head, link, linked, with_constant, equality}
+use Rattle.jp_problem.specs.StepClauses.{Ranked, ranked_from, is_there, was_there, comes_up, member_comes_up, head, link, linked, with_constant, equality}
 
 abbrev Members : Type 0
 Members = List (Expr × ℕ)
@@ -81,7 +81,6 @@ module _ (test : ℕ → Bool) where
   all_is ms = all_behind [] ms ∙ ap (λ o. all_of o ms) (sym (position_from-zero passes ms))
 
 -- ---- links
-
 
 pub link_is : (stage : Stage) (ms : Members) → link_of stage ms ≡ link (places_of (position (needs_there stage.left) ms) ms) (places_of (position (needs_there stage.right) ms) ms)
 link_is stage ms = λ i. link (first_is (is_there stage.left) ms i) (first_is (is_there stage.right) ms i)

@@ -5,7 +5,7 @@ use Rattle.jp_base.specs.declared.values.Ty.{Ty}
 use Rattle.jp_base.specs.declared.values.Value.{Value}
 use Rattle.jp_query.specs.declared.CmpOp.{CmpOp}
 use Rattle.jp_query.specs.declared.IsTest.{IsTest}
-use Rattle.jp_query.specs.declared.Expr.{Expr, out-Expr}
+use Rattle.jp_query.specs.declared.Expr.{Expr}
 use Rattle.jp_query.specs.declared.Expr.TheVariants as expr
 use Rattle.jp_query.specs.declared.JoinTree.{JoinTree}
 use Rattle.jp_query.specs.declared.Order.{Order}
@@ -16,9 +16,8 @@ use Rattle.jp_query.specs.declared.Expr.TheShapes.{former-Expr-Case-0}
 use Rattle.jp_query.specs.declared.Expr.TheViews.{roll-Expr}
 use Rattle.jp_query.specs.declared.Expr.TheFolds.{fold-JoinTree, fold-Order, fold-Output, fold-Query, map-Expr, fold-roll-Expr}
 use Rattle.jp_query.specs.Layers.{ExprLayer}
-use Rattle.jp_query.specs.Parts.{term_part, arm_parts, option_part, parts, sublink_query}
+use Rattle.jp_query.specs.Parts.{term_part, arm_parts, option_part}
 use Rattle.jp_query.specs.Typing.{is_true_test}
-use Rattle.jp_query.proofs.FoldLaws as laws
 use Rattle.jp_problem.specs.Equalities.{expr_has_sublink, has_sublink}
 use Rattle.jp_problem.specs.SublinkWords.{term_has_sublink, arm_has_sublink, option_has_sublink}
 

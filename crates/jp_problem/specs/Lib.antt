@@ -6,6 +6,7 @@ pub mod Conditions
 pub mod Equalities
 pub mod Examples
 pub mod InnerBlocks
+pub mod KeyTests
 pub mod Keys
 pub mod Legal
 pub mod LegalTests

@@ -5,6 +5,7 @@
 mod closing;
 mod examples;
 mod joinable;
+mod keys;
 mod regions;
 pub mod sets;
 mod stage;
@@ -16,6 +17,7 @@ mod types;
 pub use closing::{both_sets, closure, closures_are_least, requirement, stands_in, taken_by_right};
 pub use examples::{worked_joinable_sets, worked_minimum_sets};
 pub use joinable::{is_joinable, is_left};
+pub use keys::has_key;
 pub use regions::{is_open, join_of};
 pub use step_clauses::{new_clauses, scan_clauses};
 pub use steps::step_kind;

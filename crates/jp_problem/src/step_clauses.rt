@@ -6,7 +6,7 @@ ghost use Rattle.jp_problem.specs.StepClauses.{clauses_of_stage, equality, expr_
 
 use crate::regions::is_open;
 use crate::stage::{comes_up, is_there, scan_stage, step_stage, was_there};
-use crate::{Clause, Class, Problem, Special, Stage, StepClauses};
+use crate::{Class, Clause, Problem, Special, Stage, StepClauses};
 use jp_base::{ItemNo, Memory, RelSet};
 use jp_query::{CmpOp, Expr};
 use sqlite_items::Boxed;
@@ -173,7 +173,10 @@ fn push_link(
 ) -> Result<(), Memory>
     ensures { OnOk result (list.new ≡ list.old ++ link_of stage.now members.now) }
 {
-    match (first_there(stage.left, members), first_there(stage.right, members)) {
+    match (
+        first_there(stage.left, members),
+        first_there(stage.right, members),
+    ) {
         (Some(i), Some(j)) => push_ranked(alloc, list, members, i, j),
         _ => Ok(()),
     }

@@ -7,7 +7,6 @@ ghost use Rattle.jp_problem.specs.SublinkWords.{arm_has_sublink, term_has_sublin
 
 use jp_query::Expr;
 
-
 /// Whether the expression holds a sublink.
 #[cycle(sublinks)]
 pub fn has_sublink(expr: &Expr) -> bool

@@ -1,5 +1,5 @@
 use Rattle.std.proofs.Common.{◌≡◌, ◌∙◌, ◌++◌, ap, sym, subst, OnOk, Some}
-use Rattle.jp_problem.specs.StepClauses.{of_class, of_constant, ranked_from}
+use Rattle.jp_problem.specs.StepClauses.{of_constant, ranked_from}
 use Rattle.jp_problem.proofs.PushLaws.{constants}
 use Rattle.jp_problem.proofs.step_clauses.push_class.Goals as goal
 

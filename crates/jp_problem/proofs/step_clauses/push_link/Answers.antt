@@ -1,6 +1,5 @@
 use Rattle.std.proofs.Common.{◌≡◌, ◌∙◌, ◌++◌, ap, sym, subst, OnOk}
 use Rattle.std.proofs.lemmas.List.{append-nil}
-use Rattle.jp_problem.specs.ClassWords.{link_of}
 use Rattle.jp_problem.proofs.PushLaws.{linked_pair, no_left, no_right}
 use Rattle.jp_problem.proofs.step_clauses.push_link.Goals as goal
 
