@@ -4,5 +4,7 @@
 
 mod clauses;
 mod problem;
+#[cfg(test)]
+mod tests;
 
 pub use problem::distribute;
