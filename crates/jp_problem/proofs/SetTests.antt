@@ -3,8 +3,9 @@ use Rattle.std.proofs.Common.{◌≡◌, ◌∙◌, sym, refl, subst, ℕ, zero,
 use Rattle.std.specs.Prelude.{bit_and, IsTrue, IsNone, is_some}
 use Rattle.std.specs.Int.{bit_at}
 use Rattle.std.proofs.lemmas.Bool.{cases_eq, cases_lt, eq-eqb, eqb-true, not-true, not_from_false, false_from_ne_true, both_ways}
-use Rattle.std.proofs.lemmas.Nat.Bits.{bit_at_and, bit_at_xor, bit_at_above, bit_at-lt}
-use Rattle.jp_base.specs.Sets.{Has, IsEmpty, Within, Meets, IsDifference}
+use Rattle.std.proofs.lemmas.Nat.Bits.{bit_at-pow_same, bit_at-pow_other, bit_at_and, bit_at_xor, bit_at_above, bit_at-lt}
+use Rattle.jp_base.specs.Sets.{Has, IsEmpty, IsOnly, Within, Meets, IsDifference}
+use Rattle.jp_query.specs.Refs.{only}
 use Rattle.jp_base.proofs.SetLemmas.{has_and, same_set, within_and, empty_zero}
 use Rattle.jp_problem.specs.Sets.{is_within, is_empty, meets, without}
 use Rattle.jp_problem.specs.Legal.{Apart}
@@ -90,3 +91,10 @@ common_is a b less r first second = same_set r (bit_and a b) (λ i. (to i, from 
 
     from : (i : ℕ) → Has (bit_and a b) i → Has r i
     from i h = let parts = (has_and a b i).0 h in (second i).1 (parts.0, λ p. ((first i).0 p).1 parts.1)
+
+-- the set of one item
+has_only : (i k : ℕ) → Has (only i) k → k ≡ i
+has_only i k h = elim (cases_eq k i) [ inl e ↦ e | inr n ↦ absurd (omega (arith, bit_at-pow_other i k n, h)) ]
+
+pub only_is : (i r : ℕ) → IsOnly i r → r ≡ only i
+only_is i r o = same_set r (only i) (λ k. (λ h. subst (λ j. Has (only i) j) (sym ((o k).0 h)) (bit_at-pow_same i), λ h. (o k).1 (has_only i k h)))

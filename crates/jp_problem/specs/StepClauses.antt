@@ -7,15 +7,10 @@ use Rattle.jp_problem.specs.declared.types.Problem.{Problem}
 use Rattle.jp_problem.specs.declared.types.Special.{Special}
 use Rattle.jp_problem.specs.declared.types.Clause.{Clause}
 use Rattle.jp_problem.specs.declared.types.Class.{Class}
+use Rattle.jp_problem.specs.declared.types.Stage.{Stage}
 use Rattle.jp_problem.specs.Sets.{is_within}
 use Rattle.jp_problem.specs.Equalities.{equals}
 use Rattle.jp_problem.specs.Problems.{join_of}
-
--- What a step has together, and what was there before: the two parts of a step, and no part at a scan.
-pub record Stage : Type 0 where
-  pub whole : ℕ
-  pub left : Option ℕ
-  pub right : Option ℕ
 
 abbrev pub step_stage : ℕ → ℕ → Stage
 step_stage left right = record { whole = bit_or left right; left = Some left; right = Some right }

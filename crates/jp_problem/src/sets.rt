@@ -1,9 +1,10 @@
 //! Operations on sets of items, as functions of their masks.
 
 ghost use Rattle.std.specs.Prelude.{◌≡◌, ◌<◌, ◌^◌, bit_and, bit_or};
+ghost use Rattle.jp_query.specs.Refs.{only};
 ghost use Rattle.jp_problem.specs.Sets.{is_within, is_empty, meets, or_if_empty, set_if, without};
 
-use jp_base::RelSet;
+use jp_base::{ItemNo, RelSet};
 
 pub fn is_within(a: RelSet, b: RelSet) -> bool
     ensures { result ≡ is_within a b }
@@ -59,4 +60,12 @@ pub fn set_if(test: bool, set: RelSet) -> RelSet
     ensures { result ≡ set_if test set }
 {
     if test { set } else { nothing() }
+}
+
+/// The set of one item.
+pub fn one(item: ItemNo) -> RelSet
+    requires { item < 64 }
+    ensures { result ≡ only item }
+{
+    RelSet::one(item)
 }

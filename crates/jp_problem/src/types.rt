@@ -1,9 +1,9 @@
-ghost use Rattle.std.specs.Prelude.{◌≡◌};
+ghost use Rattle.std.specs.Prelude.{◌≡◌, ◌++◌, ◌∷◌, [], OnOk};
 
-use jp_base::{ItemNo, JoinNo, RelNo, RelSet};
+use jp_base::{ItemNo, JoinNo, Memory, RelNo, RelSet};
 use jp_query::{Expr, JoinKind};
-use smallvec::SmallVec;
 use sqlite_items::Items;
+use std::alloc::Global;
 use std::marker::Model;
 
 /// What is left of a query block for the search of an order of its joins. Sets of items are sets of their numbers, which
@@ -153,10 +153,18 @@ pub enum Method {
     Merge,
 }
 
+/// What a step or a scan has together, and what was there before: the two parts of a step, and no part at a scan.
+#[derive(Clone, Copy, Debug, PartialEq, Eq)]
+pub struct Stage {
+    pub whole: RelSet,
+    pub left: Option<RelSet>,
+    pub right: Option<RelSet>,
+}
+
 /// The few clauses that are tested at a step or a scan; seen as their list.
 #[derive(Drop)]
 pub struct StepClauses {
-    list: SmallVec<Expr, 4>,
+    list: Vec<Expr>,
 }
 
 impl Model for StepClauses {
@@ -173,6 +181,22 @@ impl Model for StepClauses {
 }
 
 impl StepClauses {
+    /// No clauses.
+    pub(crate) fn new(alloc: Global) -> StepClauses
+        ensures { result ≡ [] }
+    {
+        StepClauses {
+            list: Vec::new(alloc),
+        }
+    }
+
+    pub(crate) fn push(&mut self, clause: Expr) -> Result<(), Memory>
+        ensures { OnOk result (self.new ≡ self.old ++ clause ∷ []) }
+    {
+        self.list.push(clause)?;
+        Ok(())
+    }
+
     /// The clauses, lent.
     pub fn items(&self) -> &[Expr]
         ensures { result.now ≡ self.now }

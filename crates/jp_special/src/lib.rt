@@ -14,5 +14,6 @@ mod survey;
 mod walk;
 
 pub use block::specials;
+pub use conditions::span;
 pub use minimum::specials_in;
 pub use outlines::outline;

@@ -1,0 +1,5 @@
+use Rattle.jp_special.proofs.BlockSize.{has_room}
+use Rattle.jp_quals.proofs.tests.distributed.Goals as goal
+
+pub outline-requires : goal.outline-requires
+outline-requires c = has_room c.args.query.now c.requires
