@@ -1,0 +1,5 @@
+pub mod FrameLaws
+pub mod GivenLaws
+pub mod MadeLaws
+pub mod MapRows
+pub mod Reading

@@ -1,0 +1,11 @@
+//! Laws that the join problem of every query block is a frame: with rows for its items, each map stands for an environment,
+//! and its ON lists and clauses are tests on maps. So what holds of frames holds of blocks: every legal tree gives one bag.
+//!
+//! Each law is the contract of a function that does nothing.
+#![tactic(auto)]
+
+mod environments;
+mod frames;
+
+pub use environments::a_map_gives_relations_their_rows;
+pub use frames::a_problem_is_a_frame;
