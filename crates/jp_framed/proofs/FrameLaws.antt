@@ -37,7 +37,7 @@ module _ (problem : Problem) (setting : Setting) (m : MeetsConditions problem) w
     differ = λ e. other (omega (arith, number_at s low, number_at t high, e));
   }
 
-  region_low : (c r : ℕ) → c < length problem.clauses → (clause_at problem.clauses c).region ≡ suc r → r < length problem.joins
+  pub region_low : (c r : ℕ) → c < length problem.clauses → (clause_at problem.clauses c).region ≡ suc r → r < length problem.joins
   region_low c r low e = elim (m.region_join (clause_at problem.clauses c) (clause_stands problem.clauses c low)) [
     | inl top ↦ absurd (omega (arith, top, e))
     | inr k ↦ (numbered_at k.0 r k.1 (k.2 ∙ e)).0

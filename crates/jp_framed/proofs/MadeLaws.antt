@@ -1,5 +1,5 @@
 -- A problem that is made has typed conditions, and its items share no relation.
-use Rattle.std.proofs.Common.{◌≡◌, sym, subst, ℕ, inl, inr, true, List, get_or, Some}
+use Rattle.std.proofs.Common.{◌≡◌, ap, refl, sym, subst, ℕ, inl, inr, true, List, get_or, Some}
 use Rattle.std.specs.Prelude.{All, Contains, slice_get}
 use Rattle.std.proofs.lemmas.List.Elements.{Contains-get_or}
 use Rattle.jp_base.specs.Sets.{Has}
@@ -32,6 +32,7 @@ use Rattle.jp_conditions.proofs.WithClasses.{good}
 use Rattle.jp_frame.specs.Frames.{IsFrame}
 use Rattle.jp_framed.specs.Environments.{Setting}
 use Rattle.jp_framed.specs.Framing.{AreApart, AreConditionsTyped, frame_of}
+use Rattle.jp_framed.specs.Running.{HasNoClasses}
 use Rattle.jp_framed.proofs.FrameLaws.{is_frame}
 
 module _ (query : Query) (items : List Item) (block : IsBlock query) (are : AreItemsOf query items) where
@@ -74,3 +75,9 @@ made_apart problem made = subst AreApart (sym made.items) (own_at made.query pro
 
 pub made_frame : (problem : Problem) (setting : Setting) → IsMade problem → IsFrame (frame_of problem setting)
 made_frame problem setting made = is_frame problem setting (made_conditions problem made) (made_typed problem made) (made_apart problem made)
+
+pub plain_without_classes : (items : List Item) (query : Query) → HasNoClasses (problem_of items query)
+plain_without_classes items query = record {
+  classes = refl;
+  clauses = λ c h. let p = from_map (clause_of (outline_of query).rels (specials_in (outline_of query))) c (outline_of query).clauses (to_in c (problem_of items query).clauses h) in ap (λ (x : Clause). x.class) (sym p.2);
+}

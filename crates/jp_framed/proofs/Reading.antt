@@ -60,6 +60,9 @@ placed joins s h =
 pub low_of : (joins : List Special) (k : ℕ) (s : Special) → slice_get joins k ≡ Some s → k < length joins
 low_of joins k s e = low_place joins k s e
 
+pub clause_placed : (clauses : List Clause) (c : Clause) → In c clauses → (k : ℕ) × (k < length clauses) × (clause_at clauses k ≡ c)
+clause_placed clauses c h = let k = at_place clauses c h in (k.0, low_place clauses k.0 c k.1, get_or_from_slice_get clauses k.0 c no_clause k.1)
+
 -- ---- values
 
 pub by_references : (sublinks : Sublinks) (e : Expr) (env other : Env) → IsTypedExpr e → ((i : ℕ) → Has (refs_of e) i → env i ≡ other i) → value_by sublinks e env ≡ value_by sublinks e other
