@@ -1,6 +1,7 @@
 pub mod EnoughLaws
 pub mod FrameLaws
 pub mod GivenLaws
+pub mod JoinedMaps
 pub mod MadeLaws
 pub mod MapRows
 pub mod Reading

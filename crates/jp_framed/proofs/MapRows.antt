@@ -15,10 +15,10 @@ use Rattle.jp_frame.specs.Maps.{Map, at, Agree, NoneOn}
 use Rattle.jp_framed.specs.Environments.{Setting, source_at, row_at, env_from, env_of}
 use Rattle.jp_framed.specs.Framing.{AreApart}
 
-overlaid : (r : ℕ) (x u : Env) (i : ℕ) → Has r i → with_rows r x u i ≡ u i
+pub overlaid : (r : ℕ) (x u : Env) (i : ℕ) → Has r i → with_rows r x u i ≡ u i
 overlaid r x u i p = ap (λ b. if b then u i else x i) (eq-eqb (bit_at r i) 1 p)
 
-left_alone : (r : ℕ) (x u : Env) (i : ℕ) → ¬ Has r i → with_rows r x u i ≡ x i
+pub left_alone : (r : ℕ) (x u : Env) (i : ℕ) → ¬ Has r i → with_rows r x u i ≡ x i
 left_alone r x u i n = ap (λ b. if b then u i else x i) (ne_eqb (bit_at r i) 1 n)
 
 same_some : {X : Type 0} (a b : X) → Some a ≡ Some b → a ≡ b
@@ -57,7 +57,7 @@ same_from sources outer m n first (r ∷ rels) rel same = elim (cases_eq (bit_at
 ]
 
 -- a relation of the set's items belongs to one of them
-from_rels : (first : ℕ) (rels : List ℕ) (set rel : ℕ) → Has (rels_from first rels set) rel → (k : ℕ) × (r : ℕ) × (slice_get rels k ≡ Some r) × Has set (first + k) × Has r rel
+pub from_rels : (first : ℕ) (rels : List ℕ) (set rel : ℕ) → Has (rels_from first rels set) rel → (k : ℕ) × (r : ℕ) × (slice_get rels k ≡ Some r) × Has set (first + k) × Has r rel
 from_rels first [] set rel h = absurd (has_none rel h)
 from_rels first (r ∷ rels) set rel h = elim ((has_or (set_if (has set first) r) (rels_from (suc first) rels set) rel).0 h) [
   | inl p ↦ here (cases_eq (bit_at set first) 1) p

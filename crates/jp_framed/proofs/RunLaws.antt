@@ -1,8 +1,10 @@
 -- Runs of legal trees are legal, and give one bag.
-use Rattle.std.proofs.Common.{◌≡◌, ap₂, sym, subst, ◌<◌, length}
+use Rattle.std.proofs.Common.{◌≡◌, ap₂, sym, subst, refl, ◌<◌, Bool, length}
 use Rattle.std.specs.Prelude.{◌^◌, bit_or}
 use Rattle.std.specs.List.Sorted.{IsPermutation}
 use Rattle.std.proofs.lemmas.List.Sorted.{IsPermutation-sym, IsPermutation-trans, IsPermutation-map}
+use Rattle.jp_problem.specs.declared.types.Method.{Method}
+use Rattle.jp_problem.specs.declared.types.Method.TheVariants as method
 use Rattle.jp_problem.specs.declared.types.Problem.{Problem}
 use Rattle.jp_problem.specs.Conditions.{MeetsConditions}
 use Rattle.jp_problem.specs.Made.{IsMade}
@@ -10,14 +12,16 @@ use Rattle.jp_problem.specs.Problems.{problem_rels}
 use Rattle.jp_problem.specs.Trees.{Tree, set_of, IsLegalTree}
 use Rattle.jp_conditions.proofs.MadeLaws.{made_conditions}
 use Rattle.jp_frame.specs.Frames.{Frame}
+use Rattle.jp_frame.specs.Maps.{Map}
 use Rattle.jp_frame.specs.Rows.{row_set}
-use Rattle.jp_frame.specs.Steps.{IsLegal}
+use Rattle.jp_frame.specs.Steps.{IsLegal, IsEnough}
 use Rattle.jp_frame.specs.Methods.{ListsOnce, IsAllowed as IsAllowedRun}
 use Rattle.jp_frame.specs.Trees.{Tree as Run, set_of as run_set, IsLegalTree as IsLegalRun, rows_of}
 use Rattle.jp_frame.proofs.TreeLaws.{tree_bag, tree_lists, once_from}
 use Rattle.jp_framed.specs.Environments.{Setting, env_of}
 use Rattle.jp_framed.specs.Framing.{frame_of}
-use Rattle.jp_framed.specs.Running.{step_of, IsRunOf, tuples_of_run}
+use Rattle.jp_framed.specs.Running.{step_of, IsSameMethod, IsRunOf, tuples_of_run, step_clauses_hold, HasNoClasses, Orders, method_of, run_of}
+use Rattle.jp_framed.proofs.EnoughLaws.{step_enough, scan_enough}
 use Rattle.jp_framed.proofs.MadeLaws.{made_frame}
 use Rattle.jp_framed.proofs.StepLaws.{legal_from, allowed_from}
 
@@ -47,6 +51,31 @@ module _ (problem : Problem) (setting : Setting) where
         )
     run_legal (Tree.Scan i) (Run.Join how step test on_left on_right) legal h = absurd h
     run_legal (Tree.Join method kind left right) (Run.Scan j test) legal h = absurd h
+
+  -- ---- the run by step clauses
+
+  same_method : (by_left by_right : Map → Map → Bool) (by : Method) → IsSameMethod by (method_of by_left by_right by)
+  same_method by_left by_right method.Nest = tt
+  same_method by_left by_right method.Hash = tt
+  same_method by_left by_right method.HashRight = tt
+  same_method by_left by_right method.Merge = tt
+
+  module _ (orders : Orders) where
+    run_items : (t : Tree) → run_set (run_of problem setting orders t) ≡ set_of t
+    run_items (Tree.Scan i) = refl
+    run_items (Tree.Join by kind left right) = ap₂ bit_or (run_items left) (run_items right)
+
+    pub own_run : MeetsConditions problem → HasNoClasses problem → (t : Tree) → IsRunOf f t (run_of problem setting orders t)
+    own_run m none (Tree.Scan i) = (refl, scan_enough problem setting m none i)
+    own_run m none (Tree.Join by kind left right) =
+        let test = step_clauses_hold problem setting (set_of left) (set_of right) in
+        (
+          same_method (orders.by_left (set_of left) (set_of right) kind) (orders.by_right (set_of left) (set_of right) kind) by,
+          refl,
+          subst (λ n. IsEnough f n (run_set (run_of problem setting orders right)) (step_of kind) test) (sym (run_items left)) (subst (λ n. IsEnough f (set_of left) n (step_of kind) test) (sym (run_items right)) (step_enough problem setting m none (set_of left) (set_of right) (step_of kind))),
+          own_run m none left,
+          own_run m none right,
+        )
 
   module _ (made : IsMade problem) where
     pub run_bag : (t : Tree) (r : Run) → IsLegalTree problem t → IsRunOf f t r → IsPermutation (rows_of f r) (row_set f (set_of t))

@@ -1,5 +1,6 @@
 -- From maps to environments: the rows of a block's items give its relations their rows.
-use Rattle.std.specs.Prelude.{ℕ, suc, List, [], ◌∷◌, Option, Some, None, slice_index_or}
+use Rattle.std.specs.Prelude.{◌≡◌, ℕ, suc, List, [], ◌∷◌, Option, Some, None, slice_get, slice_index_or}
+use Rattle.jp_base.specs.Sets.{Has}
 use Rattle.jp_frame.specs.Maps.{Map, at}
 use Rattle.jp_query.specs.declared.Expr.{Expr}
 use Rattle.jp_query.specs.Meaning.{Row, Env, ValueIn, no_outer_rows, with_rows, value_of, value_given}
@@ -39,3 +40,11 @@ env_from first (rels ∷ more) sources outer m = with_rows rels (env_from (suc f
 -- the environment of a map, by the relations of the items
 abbrev pub env_of : List ℕ → Setting → Map → Env
 env_of rels setting m = env_from 0 rels setting.sources setting.outer m
+
+-- a map has rows of the set's items alone
+abbrev pub LiesOn : ℕ → Map → Type 0
+LiesOn set m = (i : ℕ) → ¬ Has set i → at m i ≡ None
+
+-- around the block no relation of its items has a row
+abbrev pub HasNoOwnRows : List ℕ → Env → Type 0
+HasNoOwnRows rels outer = (i set rel : ℕ) → slice_get rels i ≡ Some set → Has set rel → outer rel ≡ None

@@ -9,7 +9,7 @@ use Rattle.jp_problem.specs.declared.types.Step.{Step}
 use Rattle.jp_problem.specs.declared.types.Step.TheVariants as step
 use Rattle.jp_problem.specs.Problems.{problem_rels}
 use Rattle.jp_problem.specs.StepClauses.{step_clauses, scan_clauses}
-use Rattle.jp_problem.specs.Trees.{Tree}
+use Rattle.jp_problem.specs.Trees.{Tree, set_of}
 use Rattle.jp_frame.specs.Maps.{Map}
 use Rattle.jp_frame.specs.Frames.{Frame}
 use Rattle.jp_frame.specs.Methods.{Method as RunMethod, IsEnoughAtScan}
@@ -50,6 +50,25 @@ step_clauses_hold problem setting left right = list_holds (problem_rels problem)
 
 abbrev pub scan_clauses_hold : Problem → Setting → ℕ → Map → Bool
 scan_clauses_hold problem setting i = list_holds (problem_rels problem) setting (scan_clauses problem i)
+
+-- The orders by which Merge sorts the sides of a step, by the sets of its sides and its kind.
+pub record Orders : Type 0 where
+  pub by_left : ℕ → ℕ → Step → Map → Map → Bool
+  pub by_right : ℕ → ℕ → Step → Map → Map → Bool
+
+abbrev pub method_of : (Map → Map → Bool) → (Map → Map → Bool) → Method → RunMethod
+method_of by_left by_right method.Nest = RunMethod.Nest
+method_of by_left by_right method.Hash = RunMethod.Hash
+method_of by_left by_right method.HashRight = RunMethod.HashRight
+method_of by_left by_right method.Merge = RunMethod.Merge by_left by_right
+
+-- the run of a tree whose tests are the clauses of its steps and scans
+abbrev pub run_of : Problem → Setting → Orders → Tree → Run
+run_of problem setting orders (Tree.Scan i) = Run.Scan i (scan_clauses_hold problem setting i)
+run_of problem setting orders (Tree.Join method kind left right) =
+    let l = set_of left in
+    let r = set_of right in
+    Run.Join (method_of (orders.by_left l r kind) (orders.by_right l r kind) method) (step_of kind) (step_clauses_hold problem setting l r) (run_of problem setting orders left) (run_of problem setting orders right)
 
 -- no class, and no clause that is an equality of one
 pub record HasNoClasses (problem : Problem) : Type 0 where

@@ -8,14 +8,14 @@ ghost use Rattle.jp_problem.specs.Conditions.{MeetsConditions};
 ghost use Rattle.jp_problem.specs.Legal.{IsLegalStep};
 ghost use Rattle.jp_problem.specs.Made.{IsMade};
 ghost use Rattle.jp_problem.specs.Problems.{problem_of};
-ghost use Rattle.jp_problem.specs.Trees.{Tree, set_of, IsLegalTree, IsPlan};
+ghost use Rattle.jp_problem.specs.Trees.{Tree, set_of, IsLegalTree};
 ghost use Rattle.jp_frame.specs.Rows.{row_set};
 ghost use Rattle.jp_frame.specs.Steps.{Step as RunStep, IsLegal, IsEnough};
 ghost use Rattle.jp_frame.specs.Methods.{ListsOnce, IsEnoughAtScan};
 ghost use Rattle.jp_frame.specs.Trees.{Tree as Run, set_of as run_set, IsLegalTree as IsLegalRun, rows_of};
 ghost use Rattle.jp_framed.specs.Environments.{Setting};
 ghost use Rattle.jp_framed.specs.Framing.{frame_of};
-ghost use Rattle.jp_framed.specs.Running.{step_of, IsRunOf, tuples_of_run, step_clauses_hold, scan_clauses_hold, HasNoClasses};
+ghost use Rattle.jp_framed.specs.Running.{step_of, IsRunOf, tuples_of_run, step_clauses_hold, scan_clauses_hold, HasNoClasses, Orders, run_of};
 
 /// A law: each legal step of a problem is a legal step of its frame, of the same kind.
 pub fn legal_steps_are_legal_in_the_frame()
@@ -42,11 +42,13 @@ pub fn legal_trees_of_a_problem_give_one_bag()
 {}
 
 /// A law: without classes, as in the problem of a block before they are derived, the clauses of a step and of a scan are
-/// enough: they hold where all clauses that are due there do.
+/// enough: they hold where all clauses that are due there do. So each tree is run by its own step clauses, with any orders
+/// for Merge.
 pub fn step_clauses_are_enough_without_classes()
     ensures step { (problem : Problem) (setting : Setting) (left : ℕ) (right : ℕ) (step : RunStep) → MeetsConditions problem → HasNoClasses problem →
         IsEnough (frame_of problem setting) left right step (step_clauses_hold problem setting left right) }
     ensures scan { (problem : Problem) (setting : Setting) (i : ℕ) → MeetsConditions problem → HasNoClasses problem →
         IsEnoughAtScan (frame_of problem setting) i (scan_clauses_hold problem setting i) }
+    ensures run { (problem : Problem) (setting : Setting) (orders : Orders) (tree : Tree) → MeetsConditions problem → HasNoClasses problem → IsRunOf (frame_of problem setting) tree (run_of problem setting orders tree) }
     ensures plain { (items : List Item) (query : Query) → HasNoClasses (problem_of items query) }
 {}
