@@ -1,20 +1,20 @@
 -- Joins of maps are joins of their environments.
-use Rattle.std.proofs.Common.{◌≡◌, ◌∙◌, ap, ap₂, sym, subst, refl, ℕ, suc, zero, ◌+◌, ◌<◌, ◌⊎◌, inl, inr, Bool, true, false, not, ◌||◌, cond, List, [], ◌∷◌, ◌++◌, map, filter, Option, Some, None, eq-eqb, arith}
+use Rattle.std.proofs.Common.{◌≡◌, ◌∙◌, ap, ap₂, sym, subst, refl, ℕ, suc, zero, ◌+◌, ◌<◌, inl, inr, Bool, true, false, not, ◌||◌, cond, List, [], ◌∷◌, ◌++◌, map, filter, length, get_or, Some, None, eq-eqb, arith}
 use mathlib.Core.Path.{fun_ext}
-use Rattle.std.specs.Prelude.{◌==◌, ◌^◌, slice_get, if◌then◌else◌}
+use Rattle.std.specs.Prelude.{slice_get, if◌then◌else◌}
 use Rattle.std.specs.Int.{bit_at}
 use Rattle.std.specs.List.{list_any, flat_map}
 use Rattle.std.proofs.lemmas.Bool.{cases_eq, ne_eqb}
+use Rattle.std.proofs.lemmas.List.{length-append, append_assoc}
 use Rattle.jp_base.specs.Sets.{Has}
 use Rattle.jp_facts.proofs.Members.{In}
 use Rattle.jp_query.specs.declared.Expr.{Expr}
-use Rattle.jp_query.specs.declared.JoinKind.TheVariants as join
-use Rattle.jp_query.specs.Meaning.{Env, ValueIn, has, with_rows, without, or_else, holds, is_match, pairs, pairs_or_alone, has_match, has_no_match, join_tuples, no_outer_rows}
+use Rattle.jp_query.specs.Meaning.{Env, ValueIn, with_rows, without, or_else, holds, pairs, pairs_or_alone, has_match, has_no_match, no_outer_rows}
 use Rattle.jp_problem.specs.Blocks.{rels_at}
 use Rattle.jp_conditions.proofs.Items.{rels_of_set}
 use Rattle.jp_frame.specs.Maps.{Map, at, both, NoneOn}
 use Rattle.jp_frame.specs.Frames.{Left, Semi, Anti}
-use Rattle.jp_frame.specs.Methods.{one_row, none_row, matches, is_matched, left_rows, once_where, joined_rows}
+use Rattle.jp_frame.specs.Methods.{one_row, none_row, rows_of_item, matches, is_matched, left_rows, once_where, joined_rows}
 use Rattle.jp_frame.proofs.MapLaws.{both_left, both_right}
 use Rattle.jp_frame.proofs.Sets.{decide_has}
 use Rattle.jp_framed.specs.Environments.{Setting, value_by, source_at, row_at, env_of, LiesOn, HasNoOwnRows}
@@ -46,6 +46,10 @@ owner (r ∷ rels) rel = elim (decide_has r rel) [ inl p ↦ owned 0 r refl p | 
     later : ¬ Has r rel → Owner rels rel → Owner (r ∷ rels) rel
     later n (owned i set e p) = owned (suc i) set e p
     later n (free others) = free (none_of n others)
+
+at_middle : (before rest : List Env) (x : Env) → get_or (before ++ x ∷ rest) (length before) no_outer_rows ≡ x
+at_middle [] rest x = refl
+at_middle (y ∷ before) rest x = at_middle before rest x
 
 -- ---- tests of environments
 
@@ -139,6 +143,18 @@ module _ (rels : List ℕ) (setting : Setting) (apart : AreApart rels) where
 
     pub env_one : env (one_row n i r) ≡ with_rows set setting.outer row
     env_one = fun_ext (λ rel. one_at rel (owner rels rel))
+
+  module _ (n i set : ℕ) (low : i < n) (here : slice_get rels i ≡ Some set) (clear : HasNoOwnRows rels setting.outer) where
+    -- the item's rows from those in `before` on
+    rows_from : (before rest : List Env) → source_at setting.sources i ≡ before ++ rest → map env (rows_of_item n i (length before) (length rest)) ≡ map (with_rows set setting.outer) rest
+    rows_from before [] e = refl
+    rows_from before (x ∷ rest) e =
+        let one = env_one n i set (length before) low here clear ∙ ap (λ (source : List Env). with_rows set setting.outer (get_or source (length before) no_outer_rows)) e ∙ ap (with_rows set setting.outer) (at_middle before rest x) in
+        let more = ap (λ k. map env (rows_of_item n i k (length rest))) (sym (length-append before (x ∷ []) ∙ omega arith)) ∙ rows_from (before ++ x ∷ []) rest (e ∙ sym (append_assoc before (x ∷ []) rest)) in
+        ap₂ ◌∷◌ one more
+
+    pub scanned : map env (rows_of_item n i 0 (length (source_at setting.sources i))) ≡ map (with_rows set setting.outer) (source_at setting.sources i)
+    scanned = rows_from [] (source_at setting.sources i) refl
 
   -- ---- lists
 

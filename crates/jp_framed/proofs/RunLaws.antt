@@ -68,8 +68,7 @@ module _ (problem : Problem) (setting : Setting) where
     pub own_run : MeetsConditions problem → HasNoClasses problem → (t : Tree) → IsRunOf f t (run_of problem setting orders t)
     own_run m none (Tree.Scan i) = (refl, scan_enough problem setting m none i)
     own_run m none (Tree.Join by kind left right) =
-        let test = step_clauses_hold problem setting (set_of left) (set_of right) in
-        (
+        let test = step_clauses_hold problem setting (set_of left) (set_of right) in (
           same_method (orders.by_left (set_of left) (set_of right) kind) (orders.by_right (set_of left) (set_of right) kind) by,
           refl,
           subst (λ n. IsEnough f n (run_set (run_of problem setting orders right)) (step_of kind) test) (sym (run_items left)) (subst (λ n. IsEnough f (set_of left) n (step_of kind) test) (sym (run_items right)) (step_enough problem setting m none (set_of left) (set_of right) (step_of kind))),

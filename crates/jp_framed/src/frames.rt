@@ -12,3 +12,9 @@ pub fn a_problem_is_a_frame()
     ensures conditions { (problem : Problem) (setting : Setting) → MeetsConditions problem → AreConditionsTyped problem → AreApart (problem_rels problem) → IsFrame (frame_of problem setting) }
     ensures made { (problem : Problem) (setting : Setting) → IsMade problem → IsFrame (frame_of problem setting) }
 {}
+
+/// A law: the items of a made problem share no relation, and its ON lists and clauses are typed.
+pub fn items_of_a_made_problem_are_apart()
+    ensures apart { (problem : Problem) → IsMade problem → AreApart (problem_rels problem) }
+    ensures typed { (problem : Problem) → IsMade problem → AreConditionsTyped problem }
+{}

@@ -1,12 +1,12 @@
-ghost use Rattle.std.specs.Prelude.{◌≡◌, ℕ, ◌<◌, Bool, List, map, filter, Contains, Some, slice_get};
+ghost use Rattle.std.specs.Prelude.{◌≡◌, ℕ, ◌<◌, List, map, filter, length, Contains, Some, slice_get};
 ghost use Rattle.std.specs.List.{flat_map};
 ghost use Rattle.jp_query.specs.declared.Expr.{Expr};
 ghost use Rattle.jp_query.specs.declared.JoinKind.TheVariants as join;
-ghost use Rattle.jp_query.specs.Meaning.{Env, holds, with_rows, without, join_tuples};
+ghost use Rattle.jp_query.specs.Meaning.{holds, with_rows, without, join_tuples};
 ghost use Rattle.jp_problem.specs.Blocks.{rels_at};
 ghost use Rattle.jp_frame.specs.Frames.{Left, Semi, Anti};
 ghost use Rattle.jp_frame.specs.Maps.{Map, both, NoneOn};
-ghost use Rattle.jp_frame.specs.Methods.{one_row, matches, joined_rows};
+ghost use Rattle.jp_frame.specs.Methods.{one_row, rows_of_item, matches, joined_rows};
 ghost use Rattle.jp_framed.specs.Environments.{Setting, value_by, source_at, row_at, env_of, LiesOn, HasNoOwnRows};
 ghost use Rattle.jp_framed.specs.Framing.{AreApart, list_holds};
 
@@ -21,9 +21,12 @@ pub fn environments_follow_their_maps()
         env_of rels setting (one_row items i r) ≡ with_rows set setting.outer (row_at (source_at setting.sources i) (Some r)) }
 {}
 
-/// A law: the lists of joined maps are those of the joined tuples that the maps stand for, where the left maps are none on
-/// the right items and the right maps have rows of these alone. `l` is whatever relations the left tuples have.
+/// A law: the maps of an item's rows stand for its rows, in their order, and the lists of filtered and joined maps are those
+/// of the filtered and joined tuples that the maps stand for. The left maps are none on the right items, and the right maps
+/// have rows of these alone. `l` is whatever relations the left tuples have.
 pub fn joins_of_maps_are_joins_of_tuples()
+    ensures scanned { (rels : List ℕ) (setting : Setting) (items : ℕ) (i : ℕ) (set : ℕ) → AreApart rels → i < items → slice_get rels i ≡ Some set → HasNoOwnRows rels setting.outer →
+        map (env_of rels setting) (rows_of_item items i 0 (length (source_at setting.sources i))) ≡ map (with_rows set setting.outer) (source_at setting.sources i) }
     ensures filtered { (rels : List ℕ) (setting : Setting) (conds : List Expr) (maps : List Map) →
         map (env_of rels setting) (filter (list_holds rels setting conds) maps) ≡ filter (holds (map (value_by setting.sublinks) conds)) (map (env_of rels setting) maps) }
     ensures inner { (rels : List ℕ) (setting : Setting) (conds : List Expr) (l : ℕ) (right : ℕ) (on_left : List Map) (on_right : List Map) → AreApart rels →

@@ -10,7 +10,7 @@ mod joins;
 mod trees;
 
 pub use environments::a_map_gives_relations_their_rows;
-pub use frames::a_problem_is_a_frame;
+pub use frames::{a_problem_is_a_frame, items_of_a_made_problem_are_apart};
 pub use joins::{environments_follow_their_maps, joins_of_maps_are_joins_of_tuples};
 pub use trees::{
     legal_steps_are_legal_in_the_frame, legal_trees_of_a_problem_give_one_bag,
