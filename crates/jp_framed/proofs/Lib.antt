@@ -1,0 +1,9 @@
+pub mod EnoughLaws
+pub mod FrameLaws
+pub mod GivenLaws
+pub mod JoinedMaps
+pub mod MadeLaws
+pub mod MapRows
+pub mod Reading
+pub mod RunLaws
+pub mod StepLaws
