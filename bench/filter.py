@@ -1,11 +1,11 @@
 #!/usr/bin/env python3
-"""Times the program on a filter over a table of a million rows, beside sqlite3 where it is installed.
+"""Times the program on filters over tables of a million rows, beside sqlite3 where it is installed.
 
     bench/filter.py [PROGRAM] [ROWS]
 
-PROGRAM is crates/joinplan/out/joinplan where it isn't given. Prints the seconds and the peak memory of a run
-that keeps one row in a hundred and of one that keeps none; of sqlite3 the seconds of .import and of the same
-query, and the ratio.
+PROGRAM is crates/joinplan/out/joinplan where it isn't given. The one table has three columns of numbers, the other a
+number and a text. Prints for each filter the seconds and the peak memory of the run; of sqlite3 the seconds of .import
+with the same query, and the ratio.
 """
 import os
 import random
@@ -16,45 +16,69 @@ from pathlib import Path
 
 from timing import least, peak_memory, program_path, timed
 
-CATALOGUE = """version = 1
-[tables.t]
-file = "t.csv"
-rows = 1000000
-columns = [{name = "a", type = "number"}, {name = "b", type = "number"}, {name = "c", type = "number"}]
-"""
+TABLES = {
+    "numbers": [("a", "number"), ("b", "number"), ("c", "number")],
+    "texts": [("a", "number"), ("name", "text")],
+}
+FILTERS = [
+    ("numbers", "one row in a hundred", "b >= 9910000"),
+    ("numbers", "no row", "b >= 99999999"),
+    ("texts", "equal texts, one row in a thousand", "name = 'customer-000123-of-the-region'"),
+    ("texts", "equal texts, no row", "name = 'customer-nobody-of-the-region'"),
+]
+SQLITE_TYPES = {"number": "integer", "text": "text"}
 
 
-def make_table(path, rows):
+def catalogue(rows):
+    lines = ["version = 1"]
+    for table, columns in TABLES.items():
+        listed = ", ".join(f'{{name = "{name}", type = "{kind}"}}' for name, kind in columns)
+        lines += [f"[tables.{table}]", f'file = "{table}.csv"', f"rows = {rows}", f"columns = [{listed}]"]
+    return "\n".join(lines) + "\n"
+
+
+def field(kind, numbers):
+    if kind == "number":
+        return str(numbers.randrange(1000000, 10000000))
+    return f"customer-{numbers.randrange(1000):06}-of-the-region"
+
+
+def make_table(path, columns, rows):
     numbers = random.Random(7)
     with open(path, "w", encoding="ascii") as table:
-        table.write("a,b,c\n")
+        table.write(",".join(name for name, _ in columns) + "\n")
         for _ in range(rows):
-            table.write(",".join(str(numbers.randrange(1000000, 10000000)) for _ in range(3)) + "\n")
+            table.write(",".join(field(kind, numbers) for _, kind in columns) + "\n")
+
+
+def sqlite_seconds(folder, table, condition):
+    columns = ", ".join(f"{name} {SQLITE_TYPES[kind]}" for name, kind in TABLES[table])
+    given = f".mode csv\ncreate table {table} ({columns});\n.import --skip 1 {table}.csv {table}\nselect a from {table} where {condition};\n"
+    return least(["sqlite3", ":memory:"], folder, given.encode())
+
+
+def measure(program, folder, table, name, condition):
+    size = os.path.getsize(Path(folder) / f"{table}.csv") / 2**20
+    (Path(folder) / "q.sql").write_text(f"SELECT a FROM {table} WHERE {condition}\n")
+    command = [program, "run", "K", "q.sql"]
+    seconds = least(command, folder)
+    memory = peak_memory(command, folder)
+    lines = timed(command, folder)[1].count(b"\n") - 1
+    print(f"{table} ({size:.1f} MiB), {name}: {seconds:.2f} s, {memory:.0f} MiB peak, {memory / size:.1f} times the file, {lines} rows")
+    if shutil.which("sqlite3") is not None:
+        theirs = sqlite_seconds(folder, table, condition)
+        print(f"  sqlite3: {theirs:.2f} s with .import; joinplan takes {seconds / theirs:.2f} of it")
 
 
 def main(arguments):
     program = program_path(arguments)
     rows = int(arguments[1]) if len(arguments) > 1 else 1000000
     with tempfile.TemporaryDirectory() as folder:
-        make_table(Path(folder) / "t.csv", rows)
-        (Path(folder) / "K").write_text(CATALOGUE)
-        size = os.path.getsize(Path(folder) / "t.csv") / 2**20
-        print(f"table: {rows} rows, {size:.1f} MiB")
-        for name, bound in (("one row in a hundred", 9910000), ("no row", 99999999)):
-            (Path(folder) / "q.sql").write_text(f"SELECT a FROM t WHERE b >= {bound}\n")
-            command = [program, "run", "K", "q.sql"]
-            seconds = least(command, folder)
-            memory = peak_memory(command, folder)
-            lines = timed(command, folder)[1].count(b"\n") - 1
-            print(f"joinplan, {name}: {seconds:.2f} s, {memory:.0f} MiB peak, {memory / size:.1f} times the file, {lines} rows")
-            ours = seconds
-        if shutil.which("sqlite3") is None:
-            print("sqlite3 isn't installed: no ratio")
-            return 0
-        given = b".mode csv\ncreate table t (a integer, b integer, c integer);\n.import --skip 1 t.csv t\n"
-        load = least(["sqlite3", ":memory:"], folder, given)
-        whole = least(["sqlite3", ":memory:"], folder, given + b"select a from t where b >= 99999999;\n")
-        print(f"sqlite3: .import {load:.2f} s, with the query {whole:.2f} s; joinplan takes {ours / whole:.2f} of it")
+        (Path(folder) / "K").write_text(catalogue(rows))
+        for table, columns in TABLES.items():
+            make_table(Path(folder) / f"{table}.csv", columns, rows)
+        for table, name, condition in FILTERS:
+            measure(program, folder, table, name, condition)
     return 0
 
 
