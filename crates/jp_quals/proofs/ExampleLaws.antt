@@ -1,5 +1,5 @@
 -- The query of the test is a block.
-use Rattle.std.proofs.Common.{◌≡◌, sym, ap, subst, ℕ, zero, suc, ◌<◌, ◌≤◌, List, [], ◌∷◌, length, map, arith, true}
+use Rattle.std.proofs.Common.{◌≡◌, sym, ap, subst, ℕ, zero, suc, ◌<◌, ◌≤◌, List, [], ◌∷◌, map, arith, true}
 use Rattle.std.specs.Prelude.{All, ⊤, count_ones}
 use Rattle.std.proofs.lemmas.Nat.{ones_le_self}
 use Rattle.jp_query.specs.Conditions.{IsTyped, IsBounded, Leaves, judged_leaves}

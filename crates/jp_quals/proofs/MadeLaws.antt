@@ -1,5 +1,5 @@
 -- The problem of a block is made.
-use Rattle.std.proofs.Common.{◌≡◌, sym, ap, subst, inl, refl, List}
+use Rattle.std.proofs.Common.{◌≡◌, sym, subst, inl, refl, List}
 use Rattle.jp_query.specs.declared.Query.{Query}
 use Rattle.jp_problem.specs.declared.types.Item.{Item}
 use Rattle.jp_problem.specs.declared.types.Problem.{Problem}

@@ -13,8 +13,9 @@ use jp_special::outline;
 use sqlite_items::Items;
 use std::alloc::Global;
 
-/// The problem of a block, without classes: its items and its special joins as they are handed in, and its conditions
-/// as clauses, each with its region and what it needs (as PostgreSQL's `deconstruct_jointree` in initsplan.c does).
+/// The problem of a block, without classes: its items and its special joins as they are handed in, and each condition that
+/// isn't in the ON list of a special join as a clause, with its region and the items that it needs (as PostgreSQL's
+/// `distribute_qual_to_rels` in initsplan.c finds `required_relids`). The joins are those that `specials` gives.
 pub fn distribute(
     alloc: Global,
     query: &Query,
