@@ -140,7 +140,7 @@ module _ (query : Query) (block : IsBlock query) where
     conds_by es (λ x m. sub x (inr m)) columns.1 places.1,
   )
 
-  block_seen : Seen (map known_rels items) (block_shape query) top
+  pub block_seen : Seen (map known_rels items) (block_shape query) top
   block_seen =
       let c = down knows_columns block.typed.columns in
       let d = down knows_placeholders block.typed.placeholders in
