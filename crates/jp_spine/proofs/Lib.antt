@@ -5,3 +5,6 @@ pub mod ListLaws
 pub mod OwnConditions
 pub mod SpineRows
 pub mod WrittenLists
+pub mod Outside
+pub mod MeaningLaws
+pub mod TupleLaws
