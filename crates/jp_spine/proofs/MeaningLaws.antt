@@ -24,6 +24,7 @@ use Rattle.jp_query.specs.declared.Expr.TheOpen.{JoinTree-F}
 use Rattle.jp_query.specs.declared.Query.{Query, out-Query}
 use Rattle.jp_query.specs.Joins.{join_rels}
 use Rattle.jp_query.specs.Conditions.{all_true}
+use Rattle.jp_query.specs.InOrder.{passing_tuples}
 use Rattle.jp_query.specs.Meaning.{Row, Env, ValueIn, RowsIn, SortKey, Tuples, holds, with_row, with_rows, pairs, in_place, expr_value, tree_tuples, order_key, output_value, query_rows, join_tuples, extended, with_member, combined, rels_in, value_of, tuples_of, meaning}
 use Rattle.jp_query.specs.NoRight.{expr_without_right, tree_without_right, order_without_right, output_without_right, query_without_right, has_no_right_in_tree, has_no_right_in_expr, is_no_right}
 use Rattle.jp_query.specs.Parts.{rels_of}
@@ -46,7 +47,7 @@ use Rattle.jp_conditions.proofs.Shaping.{OfItems, of_left, of_right, among_items
 use Rattle.jp_conditions.proofs.Spans.{has_span, has_only}
 use Rattle.jp_framed.specs.Environments.{Setting, Sublinks, source_at, HasNoOwnRows}
 use Rattle.jp_framed.proofs.MapRows.{from_rels}
-use Rattle.jp_spine.specs.ItemTuples.{in_place_over, HoldItems, block_tuples}
+use Rattle.jp_spine.specs.ItemTuples.{in_place_over, HoldItems}
 use Rattle.jp_spine.specs.Written.{rels_of_number, written_tuples}
 use Rattle.jp_spine.proofs.ListLaws.{kept_all, flat_same}
 use Rattle.jp_spine.proofs.Outside.{AllOut, leaf_out, join_out, rest_out, inner_swapped, left_swapped, semi_swapped, anti_swapped}
@@ -315,6 +316,6 @@ module _ (tables : ℕ → List Row) (query : Query) (sources : List (List Env))
   tree_meant : Meant tables outer sources (items_in (block_shape query)) (one query is_block) clear hold (out-Query query).tree
   tree_meant = meant tables outer sources (items_in (block_shape query)) (one query is_block) clear hold (out-Query query).tree (typed_parts query is_block).0 no_right
 
-  pub block_meant : IsPermutation (written_tuples (item_rels (block_shape query)) (in_place_over tables sources outer) (block_shape query) top) (block_tuples tables query outer)
+  pub block_meant : IsPermutation (written_tuples (item_rels (block_shape query)) (in_place_over tables sources outer) (block_shape query) top) (passing_tuples tables query outer)
   block_meant = IsPermutation-filter (holds (map (value_of tables) (out-Query query).conds)) (written_tuples (item_rels (block_shape query)) (in_place_over tables sources outer) (shape_of (out-Query query).tree) top) ((tuples_of tables (out-Query query).tree).tuples outer)
       (tree_meant.same top (λ k t e. subst (λ n. slice_get (items_in (block_shape query)) n ≡ Some t) (omega arith) e))

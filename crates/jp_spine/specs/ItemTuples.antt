@@ -1,9 +1,9 @@
--- Rows for the items of a block that are the tuples of the items' trees, and what the block's tree means.
-use Rattle.std.specs.Prelude.{◌≡◌, ℕ, List, map, filter, Some, slice_get}
+-- Rows for the items of a block that are the tuples of the items' trees.
+use Rattle.std.specs.Prelude.{◌≡◌, ℕ, List, map, Some, slice_get}
 use Rattle.std.specs.List.Sorted.{IsPermutation}
 use Rattle.jp_query.specs.declared.JoinTree.{JoinTree}
-use Rattle.jp_query.specs.declared.Query.{Query, out-Query}
-use Rattle.jp_query.specs.Meaning.{Row, Env, holds, with_rows, value_of, tuples_of}
+use Rattle.jp_query.specs.declared.Query.{Query}
+use Rattle.jp_query.specs.Meaning.{Row, Env, with_rows, tuples_of}
 use Rattle.jp_problem.specs.Blocks.{item_rels}
 use Rattle.jp_problem.specs.Shapes.{block_shape, items_in}
 use Rattle.jp_framed.specs.Environments.{Setting, Sublinks, source_at}
@@ -18,7 +18,3 @@ in_place_over tables sources outer = record { sources = sources; sublinks = Subl
 abbrev pub HoldItems : (ℕ → List Row) → Query → List (List Env) → Env → Type 0
 HoldItems tables query sources outer =
     (i : ℕ) (tree : JoinTree) → slice_get (items_in (block_shape query)) i ≡ Some tree → IsPermutation (map (with_rows (rels_of_number (item_rels (block_shape query)) i) outer) (source_at sources i)) ((tuples_of tables tree).tuples outer)
-
--- the tuples of a query's tree that make its conditions hold
-abbrev pub block_tuples : (ℕ → List Row) → Query → Env → List Env
-block_tuples tables query outer = filter (holds (map (value_of tables) (out-Query query).conds)) ((tuples_of tables (out-Query query).tree).tuples outer)

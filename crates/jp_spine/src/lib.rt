@@ -7,5 +7,7 @@
 mod meaning;
 mod spine;
 
-pub use meaning::every_legal_tree_gives_the_tuples_of_the_block;
+pub use meaning::{
+    every_legal_tree_gives_the_rows_of_the_query, every_legal_tree_gives_the_tuples_of_the_block,
+};
 pub use spine::the_spine_gives_the_written_tuples;
