@@ -74,7 +74,7 @@ module _ (query : Query) (block : IsBlock query) where
 
   -- ---- what the conditions on the query say of its tree and its conditions
 
-  typed_parts : (tree_is_typed tree ≡ true) × (are_conditions (map type_of conds) ≡ true)
+  pub typed_parts : (tree_is_typed tree ≡ true) × (are_conditions (map type_of conds) ≡ true)
   typed_parts =
       let typed = and_parts _ _ (sym (ap (λ (t : TypedQuery). t.is_typed) (laws.at-Query Typed Bool Typed TypedOutput TypedQuery expr_type tree_typed order_typed output_typed query_typed query)) ∙ block.typed.expressions) in
       let rest = and_parts _ _ typed.1 in
@@ -105,7 +105,7 @@ module _ (query : Query) (block : IsBlock query) where
   own_of : (t : JoinTree) (rel : ℕ) → In t items → Has (rels_of t) rel → In rel (own_leaves tree)
   own_of t rel m h = subst (In rel) (sym (own_items tree)) (own_at items t rel m (to_in rel (own_leaves t) (rels_are_own t rel h)))
 
-  one : (j k : ℕ) (t u : JoinTree) (rel : ℕ) → slice_get items j ≡ Some t → slice_get items k ≡ Some u → Has (rels_of t) rel → Has (rels_of u) rel → j ≡ k
+  pub one : (j k : ℕ) (t u : JoinTree) (rel : ℕ) → slice_get items j ≡ Some t → slice_get items k ≡ Some u → Has (rels_of t) rel → Has (rels_of u) rel → j ≡ k
   one j k t u rel e f h m =
       one_place items (subst Distinct (own_items tree) sheltered.distinct) j k t u rel e f (to_in rel (own_leaves t) (rels_are_own t rel h)) (to_in rel (own_leaves u) (rels_are_own u rel m))
 
@@ -140,7 +140,7 @@ module _ (query : Query) (block : IsBlock query) where
     conds_by es (λ x m. sub x (inr m)) columns.1 places.1,
   )
 
-  block_seen : Seen (map known_rels items) (block_shape query) top
+  pub block_seen : Seen (map known_rels items) (block_shape query) top
   block_seen =
       let c = down knows_columns block.typed.columns in
       let d = down knows_placeholders block.typed.placeholders in

@@ -34,7 +34,7 @@ use Rattle.jp_conditions.proofs.Spans.{has_span}
 
 -- ---- known relations are those below 64
 
-low_bits : (x i : ℕ) → i < 64 → bit_at (x % 2 ^ 64) i ≡ bit_at x i
+pub low_bits : (x i : ℕ) → i < 64 → bit_at (x % 2 ^ 64) i ≡ bit_at x i
 low_bits x i low = sym (bit_at_cat_low (x / 2 ^ 64) 64 (x % 2 ^ 64) i low) ∙ ap (λ n. bit_at n i) whole
   where
     whole : (x / 2 ^ 64) * 2 ^ 64 + x % 2 ^ 64 ≡ x
@@ -226,10 +226,10 @@ module _ (all : List JoinTree) (one : (j k : ℕ) (t u : JoinTree) (rel : ℕ) �
   abbrev pub Part : ℕ → List JoinTree → Type 0
   Part first xs = (k : ℕ) (t : JoinTree) → slice_get xs k ≡ Some t → slice_get all (first + k) ≡ Some t
 
-  first_part : (first : ℕ) (xs ys : List JoinTree) → Part first (xs ++ ys) → Part first xs
+  pub first_part : (first : ℕ) (xs ys : List JoinTree) → Part first (xs ++ ys) → Part first xs
   first_part first xs ys p k t e = p k t (get_left xs ys k t e)
 
-  second_part : (first : ℕ) (xs ys : List JoinTree) → Part first (xs ++ ys) → Part (first + length xs) ys
+  pub second_part : (first : ℕ) (xs ys : List JoinTree) → Part first (xs ++ ys) → Part (first + length xs) ys
   second_part first xs ys p k t e = subst (λ n. slice_get all n ≡ Some t) (omega arith) (p (length xs + k) t (get_right xs ys k t e))
 
   member_at : (k : ℕ) (t : JoinTree) → slice_get all k ≡ Some t → In t all

@@ -8,10 +8,11 @@ use Rattle.jp_query.specs.declared.Expr.{Expr}
 use Rattle.jp_problem.specs.declared.types.Class.{Class}
 use Rattle.jp_problem.specs.declared.types.Problem.{Problem}
 use Rattle.jp_problem.specs.declared.types.Special.{Special}
+use Rattle.jp_problem.specs.declared.types.Stage.{Stage}
 use Rattle.jp_problem.specs.Conditions.{MeetsConditions}
 use Rattle.jp_problem.specs.Problems.{problem_rels, join_of}
 use Rattle.jp_problem.specs.Sets.{is_within}
-use Rattle.jp_problem.specs.StepClauses.{Stage, step_stage, scan_stage, is_some_done, region_done, is_open, is_open_class, of_class, comes_up, stands_alone, expr_of, clauses_of_stage}
+use Rattle.jp_problem.specs.StepClauses.{step_stage, scan_stage, is_some_done, region_done, is_open, is_open_class, of_class, comes_up, stands_alone, expr_of, clauses_of_stage}
 use Rattle.jp_problem.proofs.SetTests.{is_within_says}
 use Rattle.jp_frame.specs.Maps.{Map}
 use Rattle.jp_frame.specs.Frames.{Frame}

@@ -35,7 +35,7 @@ pub data Owner (rels : List ℕ) (rel : ℕ) : Type 0 where
 same_some : {X : Type 0} (a b : X) → Some a ≡ Some b → a ≡ b
 same_some a b e = cc
 
-owner : (rels : List ℕ) (rel : ℕ) → Owner rels rel
+pub owner : (rels : List ℕ) (rel : ℕ) → Owner rels rel
 owner [] rel = free (λ i set e. cc)
 owner (r ∷ rels) rel = elim (decide_has r rel) [ inl p ↦ owned 0 r refl p | inr n ↦ later n (owner rels rel) ]
   where

@@ -1,0 +1,10 @@
+pub mod ActiveLaws
+pub mod BareLists
+pub mod BlockLaws
+pub mod ListLaws
+pub mod OwnConditions
+pub mod SpineRows
+pub mod WrittenLists
+pub mod Outside
+pub mod MeaningLaws
+pub mod TupleLaws

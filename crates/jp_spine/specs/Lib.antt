@@ -1,0 +1,2 @@
+pub mod ItemTuples
+pub mod Written
