@@ -228,7 +228,7 @@ module _ (query : Query) (items : List Item) (block : IsBlock query) (are : AreI
   of_walked (Walked.empty none e) = let some = (rooted query block).some in absurd (omega (arith, none, some))
   of_walked (Walked.tree t some e all nest good) = (t, e, record { legal = good; whole = all ∙ all_items ∙ ap (span 0) (sym as_many) }, nest)
 
-  spine_found : (tree : Tree) × (spine query ≡ Some tree) × IsPlan (problem_of items query) tree × IsNested tree
+  pub spine_found : (tree : Tree) × (spine query ≡ Some tree) × IsPlan (problem_of items query) tree × IsNested tree
   spine_found = of_walked (walked items (outline_of query) (span 0 (length (outline_of query).rels)) (laid query block) bound (block_shape query) top (rooted query block).rooted (λ i h. subst (λ n. Has n i) all_items h) whole_stage)
 
   pub spine_is_plan : (tree : Tree) × (spine query ≡ Some tree) × IsPlan (problem_of items query) tree

@@ -6,6 +6,7 @@ pub mod MeaningLaws
 pub mod Outside
 pub mod OwnConditions
 pub mod OwnSources
+pub mod RunLists
 pub mod SpineRows
 pub mod TreeTuples
 pub mod TupleLaws

@@ -75,7 +75,7 @@ module _ (tables : ℕ → List Row) (outer : Env) (sources : List (List Env)) (
   Stands first xs = (k : ℕ) (t : JoinTree) → slice_get xs k ≡ Some t → slice_get all (first + k) ≡ Some t
 
   -- what holds of a list of tuples that a shape has
-  record Has_ (shape : Shape) (at : Place) (xs : List Env) : Type 0 where
+  record Listed (shape : Shape) (at : Place) (xs : List Env) : Type 0 where
     same : IsPermutation (W shape at) xs
     out : (x : Env) → In x xs → (rel : ℕ) → (OfItems shape rel → ⊥) → x rel ≡ outer rel
 
@@ -125,7 +125,7 @@ module _ (tables : ℕ → List Row) (outer : Env) (sources : List (List Env)) (
         let inside = slice_get_within (items_in s) k.0 left.0 k.1 in
         omega (arith, same, span.0, inside)
 
-    module _ (xs : List Env) (left : Has_ s at xs) (m : Meant t) where
+    module _ (xs : List Env) (left : Listed s at xs) (m : Meant t) where
       left_none : (u : Env) → In u xs → (rel : ℕ) → Has (rels_at rels R) rel → u rel ≡ None
       left_none u h rel p = left.out u h rel (not_left rel p) ∙ clear_there rel p
 
@@ -167,7 +167,7 @@ module _ (tables : ℕ → List Row) (outer : Env) (sources : List (List Env)) (
     abbrev values : List ValueIn
     values = map (value_of tables) on
 
-    first : (at : Place) → Stands at.items (items_in (shape_of left) ++ items_in (shape_of right)) → Has_ (shape_of left) at (X left)
+    first : (at : Place) → Stands at.items (items_in (shape_of left) ++ items_in (shape_of right)) → Listed (shape_of left) at (X left)
     first at p = record { same = a.same at (first_part all one_item at.items (items_in (shape_of left)) (items_in (shape_of right)) p); out = outside left }
 
     joined_same : (kind : JoinKind) → is_no_right kind ≡ true → (at : Place) → Stands at.items (items_in (joined kind (tree.Join kind left right on) (shape_of left) (shape_of right) on))
@@ -199,7 +199,7 @@ module _ (tables : ℕ → List Row) (outer : Env) (sources : List (List Env)) (
   prefix first [] s p = p
   prefix first (t ∷ ts) s p = first_part all one_item first (items_in s) (items_in (shape_of t)) (prefix first ts (beside s (shape_of t)) p)
 
-  member_has : (s : Shape) (t : JoinTree) (at : Place) → Stands at.items (items_in s ++ items_in (shape_of t)) → (xs : List Env) → Has_ s at xs → Meant t → Has_ (beside s (shape_of t)) at (with_member outer xs (tuples_of tables t))
+  member_has : (s : Shape) (t : JoinTree) (at : Place) → Stands at.items (items_in s ++ items_in (shape_of t)) → (xs : List Env) → Listed s at xs → Meant t → Listed (beside s (shape_of t)) at (with_member outer xs (tuples_of tables t))
   member_has s t at p xs h m = record {
     same = subst (IsPermutation (W (beside s (shape_of t)) at)) (flat_same (pairs [] (N t) (X t)) (extended (tuples_of tables t) outer) xs (λ u k. each_pair (N t) (X t) u)) (inner_moved s t at p xs h m [] 0);
     out = λ x k rel none.
@@ -209,12 +209,12 @@ module _ (tables : ℕ → List Row) (outer : Env) (sources : List (List Env)) (
         ap (λ (z : Env). z rel) (sym v.2) ∙ ap (λ c. if c then v.0 rel else u.0 rel) (ne_eqb (bit_at (N t) rel) 1 not_there) ∙ h.out u.0 u.1 rel (λ q. none (of_left s (shape_of t) rel q));
   }
 
-  members_same : (ts : List JoinTree) (s : Shape) (xs : List Env) (at : Place) → Stands at.items (items_in (fold beside s (map shape_of ts))) → Each Meant ts → Has_ s at xs
+  members_same : (ts : List JoinTree) (s : Shape) (xs : List Env) (at : Place) → Stands at.items (items_in (fold beside s (map shape_of ts))) → Each Meant ts → Listed s at xs
       → IsPermutation (W (fold beside s (map shape_of ts)) at) (fold (with_member outer) xs (map (tuples_of tables) ts))
   members_same [] s xs at p each h = h.same
   members_same (t ∷ ts) s xs at p each h = members_same ts (beside s (shape_of t)) (with_member outer xs (tuples_of tables t)) at p each.1 (member_has s t at (prefix at.items ts (beside s (shape_of t)) p) xs h each.0)
 
-  start : (at : Place) → Has_ nothing at (outer ∷ [])
+  start : (at : Place) → Listed nothing at (outer ∷ [])
   start at = record { same = IsPermutation-refl (outer ∷ []); out = λ x h rel none. elim h [ inl e ↦ ap (λ (z : Env). z rel) (sym e) | inr gone ↦ absurd gone ] }
 
   from_meant : (members : List JoinTree) (conds : List Expr) → Each Meant members → tree_is_typed (tree.From members conds) ≡ true → Meant (tree.From members conds)
