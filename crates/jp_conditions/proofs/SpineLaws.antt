@@ -53,13 +53,13 @@ module _ {X Y : Type 0} (f : X → Y) (xs ys : List X) (y : Y) where
     | inr m ↦ inr (subst (λ z. In z (map f ys)) k.2 (in_map f k.0 ys m))
   ]
 
-one_item : (first : ℕ) → only first ≡ span first 1
+pub one_item : (first : ℕ) → only first ≡ span first 1
 one_item first = same_set (only first) (span first 1) (λ i. (λ h. in_left (only first) (span (suc first) 0) i h, λ h. elim ((has_or (only first) 0 i).0 h) [ inl p ↦ p | inr p ↦ absurd (has_none i p) ]))
 
-behind_none : (first m n : ℕ) → m ≡ 0 → span (first + m) n ≡ span first (m + n)
+pub behind_none : (first m n : ℕ) → m ≡ 0 → span (first + m) n ≡ span first (m + n)
 behind_none first m n e = let p : first + m ≡ first = omega (arith, e) in let q : n ≡ m + n = omega (arith, e) in ap₂ span p q
 
-before_none : (first m n : ℕ) → n ≡ 0 → span first m ≡ span first (m + n)
+pub before_none : (first m n : ℕ) → n ≡ 0 → span first m ≡ span first (m + n)
 before_none first m n e = let q : m ≡ m + n = omega (arith, e) in ap (span first) q
 
 some_span : (first n : ℕ) → 1 ≤ n → forms.Some (span first n)
@@ -228,7 +228,7 @@ module _ (query : Query) (items : List Item) (block : IsBlock query) (are : AreI
   of_walked (Walked.empty none e) = let some = (rooted query block).some in absurd (omega (arith, none, some))
   of_walked (Walked.tree t some e all nest good) = (t, e, record { legal = good; whole = all ∙ all_items ∙ ap (span 0) (sym as_many) }, nest)
 
-  spine_found : (tree : Tree) × (spine query ≡ Some tree) × IsPlan (problem_of items query) tree × IsNested tree
+  pub spine_found : (tree : Tree) × (spine query ≡ Some tree) × IsPlan (problem_of items query) tree × IsNested tree
   spine_found = of_walked (walked items (outline_of query) (span 0 (length (outline_of query).rels)) (laid query block) bound (block_shape query) top (rooted query block).rooted (λ i h. subst (λ n. Has n i) all_items h) whole_stage)
 
   pub spine_is_plan : (tree : Tree) × (spine query ≡ Some tree) × IsPlan (problem_of items query) tree

@@ -231,13 +231,13 @@ module _ (f : Frame) (ok : IsFrame f) (left right : ℕ) (apart : Apart left rig
   matches_part test a m p q = let h = (from_matches test rs a m q).1 in ap (part left) (sym h.2) ∙ part_first f left right apart a h.0 (lives_a a p) (lives_b h.0 h.1)
 
   -- a pair of members is a candidate of an inner step
-  pair_lives : (a b m : Map) → In a ls → In b rs → both a b ≡ m → Lives f (bit_or left right) m
+  pub pair_lives : (a b m : Map) → In a ls → In b rs → both a b ≡ m → Lives f (bit_or left right) m
   pair_lives a b m p q e = subst (Lives f (bit_or left right)) e (lives_union f left right apart a b (lives_a a p) (lives_b b q))
 
-  pair_left : (a b m : Map) → In a ls → In b rs → both a b ≡ m → InRowSet f left (part left m)
+  pub pair_left : (a b m : Map) → In a ls → In b rs → both a b ≡ m → InRowSet f left (part left m)
   pair_left a b m p q e = subst (InRowSet f left) (sym (part_first f left right apart a b (lives_a a p) (lives_b b q)) ∙ ap (part left) e) (on_left.to a p)
 
-  pair_right : (a b m : Map) → In a ls → In b rs → both a b ≡ m → InRowSet f right (part right m)
+  pub pair_right : (a b m : Map) → In a ls → In b rs → both a b ≡ m → InRowSet f right (part right m)
   pair_right a b m p q e = subst (InRowSet f right) (sym (part_second f left right apart a b (lives_a a p) (lives_b b q)) ∙ ap (part right) e) (on_right.to b q)
 
   module _ (test : Map → Bool) (legal : IsInnerStep f left right) (enough : IsEnough f left right Inner test) where
@@ -282,7 +282,7 @@ module _ (f : Frame) (ok : IsFrame f) (left right : ℕ) (apart : Apart left rig
     part_of_alone a p = part_whole f left a (lives_a a p)
 
     -- the rows of one left map are the candidates that it gives
-    rows_part : (k : Kind) (a m : Map) → In a ls → In m (joined_rows k (f.on s) rs a) → part left m ≡ a
+    pub rows_part : (k : Kind) (a m : Map) → In a ls → In m (joined_rows k (f.on s) rs a) → part left m ≡ a
     rows_part Left a m p q = elim (from_left_rows a m (matches (f.on s) rs a) q) [ inl h ↦ matches_part (f.on s) a m p h | inr h ↦ ap (part left) (sym h.0) ∙ part_of_alone a p ]
     rows_part Semi a m p q = ap (part left) (sym (from_once (is_matched (f.on s) rs a) a m q).1) ∙ part_of_alone a p
     rows_part Anti a m p q = ap (part left) (sym (from_once (not (is_matched (f.on s) rs a)) a m q).1) ∙ part_of_alone a p
@@ -296,7 +296,7 @@ module _ (f : Frame) (ok : IsFrame f) (left right : ℕ) (apart : Apart left rig
     of_left : (a m : Map) → In a ls → a ≡ m → a ≡ part left m
     of_left a m p e = sym (ap (part left) (sym e) ∙ part_of_alone a p)
 
-    rows_to : (k : Kind) (a m : Map) → In a ls → In m (joined_rows k (f.on s) rs a) → Lives f (bit_or left right) m × JoinedBy k f left right s m
+    pub rows_to : (k : Kind) (a m : Map) → In a ls → In m (joined_rows k (f.on s) rs a) → Lives f (bit_or left right) m × JoinedBy k f left right s m
     rows_to Left a m p q = elim (from_left_rows a m (matches (f.on s) rs a) q) [
       | inl h ↦ let k = from_matches (f.on s) rs a m h in (pair_lives a k.1.0 m p k.1.1 k.1.2, inl (pair_right a k.1.0 m p k.1.1 k.1.2, k.0))
       | inr h ↦ (alone_lives a m p h.0, inr (alone_none a m p h.0, subst (HasNoPartner f right s) (of_left a m p h.0) (none_left a h.1)))

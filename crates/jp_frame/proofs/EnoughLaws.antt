@@ -9,7 +9,7 @@ use Rattle.jp_frame.specs.Methods.{one_row, IsEnoughAtScan, scan_test}
 use Rattle.jp_frame.proofs.Reading.{all_at, all_from, implies_at, implies_from, within_is, region_open_at, region_open_from, active_at, active_from}
 
 module _ (f : Frame) (ok : IsFrame f) (left right : ℕ) where
-  due_at : (c : ℕ) → c < f.clauses → due f left right c ≡ true → IsDue f left right c
+  pub due_at : (c : ℕ) → c < f.clauses → due f left right c ≡ true → IsDue f left right c
   due_at c clause e =
       let first = and_parts (is_within (f.needs c) (bit_or left right)) (not (is_within (f.needs c) left || is_within (f.needs c) right) && not (region_done f (bit_or left right) (f.region c))) e in
       let rest = and_parts (not (is_within (f.needs c) left || is_within (f.needs c) right)) (not (region_done f (bit_or left right) (f.region c))) first.1 in
@@ -22,7 +22,7 @@ module _ (f : Frame) (ok : IsFrame f) (left right : ℕ) where
         open_region = region_open_at f ok (bit_or left right) c rest.1;
       }
 
-  due_from : (c : ℕ) → IsDue f left right c → due f left right c ≡ true
+  pub due_from : (c : ℕ) → IsDue f left right c → due f left right c ≡ true
   due_from c d =
       and_from (is_within (f.needs c) (bit_or left right)) (not (is_within (f.needs c) left || is_within (f.needs c) right) && not (region_done f (bit_or left right) (f.region c)))
       ((within_is (f.needs c) (bit_or left right)).1 d.within)

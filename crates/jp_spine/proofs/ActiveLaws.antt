@@ -1,9 +1,9 @@
 -- The clauses that are active in a union are those of its parts and those that are due; so a step's list is the filtered
 -- list of all combinations.
-use Rattle.std.proofs.Common.{◌≡◌, ◌∙◌, ap, ap₂, sym, subst, refl, ℕ, ◌<◌, ◌⊎◌, ◌↔◌, inl, inr, Bool, true, false, not, ◌&&◌, ◌||◌, cond, List, [], ◌∷◌, ◌++◌, map, filter}
+use Rattle.std.proofs.Common.{◌≡◌, ◌∙◌, ap, ap₂, sym, subst, refl, ℕ, ◌⊎◌, ◌↔◌, inl, inr, Bool, true, false, ◌&&◌, cond, List, [], ◌∷◌, ◌++◌, map, filter}
 use Rattle.std.specs.Prelude.{bit_or}
 use Rattle.std.specs.List.{flat_map}
-use Rattle.std.proofs.lemmas.Bool.{and_parts, and_from, or_cases, or_parts, not-true, not_from_false, false_from_ne_true, both_ways}
+use Rattle.std.proofs.lemmas.Bool.{and_parts, and_from}
 use Rattle.std.proofs.lemmas.List.Elements.{filter-append}
 use Rattle.jp_base.specs.Sets.{Has, Within}
 use Rattle.jp_base.proofs.MaskAlgebra.{in_left, in_right}
@@ -12,11 +12,12 @@ use Rattle.jp_frame.specs.Maps.{Map, Agree, both, all_below}
 use Rattle.jp_frame.specs.Frames.{Frame, IsFrame}
 use Rattle.jp_frame.specs.Legal.{IsDone, IsInnerStep, IsStepBy, IsByPlace, IsActive}
 use Rattle.jp_frame.specs.Methods.{AllActive, matches}
-use Rattle.jp_frame.specs.Rows.{is_within, region_done, active, clause_met}
+use Rattle.jp_frame.specs.Rows.{active, clause_met}
 use Rattle.jp_frame.specs.Steps.{IsDue, AllDue, due, due_met, step_test}
+use Rattle.jp_frame.proofs.EnoughLaws.{due_at, due_from}
 use Rattle.jp_frame.proofs.LegalLaws.{region_here}
 use Rattle.jp_frame.proofs.MapLaws.{both_left, both_right}
-use Rattle.jp_frame.proofs.Reading.{all_at, all_from, implies_at, implies_from, within_is, region_open_at, region_open_from, active_at, active_from}
+use Rattle.jp_frame.proofs.Reading.{all_at, all_from, implies_at, implies_from, active_at, active_from}
 use Rattle.jp_frame.proofs.Sets.{decide_within}
 use Rattle.jp_framed.specs.Environments.{LiesOn}
 
@@ -39,34 +40,10 @@ module _ (f : Frame) (ok : IsFrame f) where
   local set m n agree all c a = sym (ok.clause_local c m n a.clause (λ i p. agree i (a.within i (ok.uses_within c a.clause i p)))) ∙ all c a
 
   module _ (left right : ℕ) where
-    due_at : (c : ℕ) → c < f.clauses → due f left right c ≡ true → IsDue f left right c
-    due_at c clause e =
-        let first = and_parts (is_within (f.needs c) (bit_or left right)) (not (is_within (f.needs c) left || is_within (f.needs c) right) && not (region_done f (bit_or left right) (f.region c))) e in
-        let rest = and_parts (not (is_within (f.needs c) left || is_within (f.needs c) right)) (not (region_done f (bit_or left right) (f.region c))) first.1 in
-        let parts = or_parts (is_within (f.needs c) left) (is_within (f.needs c) right) (not-true (is_within (f.needs c) left || is_within (f.needs c) right) rest.0) in
-        record {
-          clause = clause;
-          within = (within_is (f.needs c) (bit_or left right)).0 first.0;
-          not_left = λ w. both_ways (is_within (f.needs c) left) parts.0 ((within_is (f.needs c) left).1 w);
-          not_right = λ w. both_ways (is_within (f.needs c) right) parts.1 ((within_is (f.needs c) right).1 w);
-          open_region = region_open_at f ok (bit_or left right) c rest.1;
-        }
-
-    due_from : (c : ℕ) → IsDue f left right c → due f left right c ≡ true
-    due_from c d =
-        and_from (is_within (f.needs c) (bit_or left right)) (not (is_within (f.needs c) left || is_within (f.needs c) right) && not (region_done f (bit_or left right) (f.region c)))
-        ((within_is (f.needs c) (bit_or left right)).1 d.within)
-        (and_from (not (is_within (f.needs c) left || is_within (f.needs c) right)) (not (region_done f (bit_or left right) (f.region c)))
-        (not_from_false (is_within (f.needs c) left || is_within (f.needs c) right) (false_from_ne_true (is_within (f.needs c) left || is_within (f.needs c) right) (λ e. elim (or_cases (is_within (f.needs c) left) (is_within (f.needs c) right) e) [
-          | inl p ↦ d.not_left ((within_is (f.needs c) left).0 p)
-          | inr p ↦ d.not_right ((within_is (f.needs c) right).0 p)
-        ])))
-        (region_open_from f ok (bit_or left right) c d.clause d.open_region))
-
     due_says : (m : Map) → (step_test f left right m ≡ true) ↔ AllDue f left right m
     due_says m = (
-      λ e c d. implies_at (due f left right c) (f.holds c m) (all_at f.clauses (due_met f left right m) c e d.clause) (due_from c d),
-      λ all. all_from f.clauses (due_met f left right m) (λ c clause. implies_from (due f left right c) (f.holds c m) (λ e. all c (due_at c clause e))),
+      λ e c d. implies_at (due f left right c) (f.holds c m) (all_at f.clauses (due_met f left right m) c e d.clause) (due_from f ok left right c d),
+      λ all. all_from f.clauses (due_met f left right m) (λ c clause. implies_from (due f left right c) (f.holds c m) (λ e. all c (due_at f ok left right c clause e))),
     )
 
     due_active : (c : ℕ) → IsDue f left right c → IsActive f (bit_or left right) c

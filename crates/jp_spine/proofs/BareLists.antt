@@ -39,7 +39,7 @@ one_long zero i r = refl
 one_long (suc n) zero r = ap suc (none_long n)
 one_long (suc n) (suc i) r = ap suc (one_long n i r)
 
-none_at : (n i : ℕ) → row_of (none_row n) i ≡ None
+pub none_at : (n i : ℕ) → row_of (none_row n) i ≡ None
 none_at zero i = refl
 none_at (suc n) zero = refl
 none_at (suc n) (suc i) = none_at n i

@@ -1,5 +1,5 @@
 -- The row set of all items of a block has the tuples of the block as it is written, and so has every legal tree.
-use Rattle.std.proofs.Common.{◌≡◌, ◌∙◌, ap, sym, subst, refl, ℕ, zero, suc, ◌<◌, inl, inr, List, map, filter, length, arith}
+use Rattle.std.proofs.Common.{Some, ◌≡◌, ◌∙◌, ap, sym, subst, refl, ℕ, zero, suc, ◌<◌, inl, inr, List, map, filter, length, arith}
 use Rattle.std.specs.List.Sorted.{IsPermutation}
 use Rattle.std.proofs.lemmas.List.{length-map}
 use Rattle.std.proofs.lemmas.List.Sorted.{IsPermutation-sym, IsPermutation-trans, IsPermutation-map}
@@ -23,12 +23,13 @@ use Rattle.jp_problem.specs.MinimumSets.{clause_needs, specials_in}
 use Rattle.jp_problem.specs.Problems.{AreItemsOf, rels_of_item, problem_rels, items_of, region_items, problem_of}
 use Rattle.jp_problem.specs.Sets.{span}
 use Rattle.jp_problem.specs.Shapes.{Shape, block_shape}
-use Rattle.jp_problem.specs.Trees.{Tree, IsPlan}
+use Rattle.jp_problem.specs.Trees.{Tree, IsPlan, spine}
 use Rattle.jp_conditions.proofs.Bounds.{Laid, bounded, needs_bounded, stands_at}
 use Rattle.jp_conditions.proofs.LaidBlocks.{laid, rooted, block_seen, same_length}
 use Rattle.jp_conditions.proofs.MadeLaws.{made_conditions}
 use Rattle.jp_conditions.proofs.Sources.{special_sides}
-use Rattle.jp_conditions.proofs.SpineLaws.{spine_is_plan}
+use Rattle.jp_conditions.proofs.SpineLaws.{spine_found}
+use Rattle.jp_conditions.proofs.WithClasses.{IsNested}
 use Rattle.jp_frame.specs.Maps.{Map}
 use Rattle.jp_frame.specs.Frames.{Frame, IsFrame}
 use Rattle.jp_frame.specs.Legal.{IsDone, IsActive}
@@ -45,6 +46,7 @@ use Rattle.jp_spine.specs.Written.{written_tuples}
 use Rattle.jp_spine.proofs.ActiveLaws.{active_test, filter_same}
 use Rattle.jp_spine.proofs.BareLists.{bare}
 use Rattle.jp_spine.proofs.OwnConditions.{own_conds, placed_own, top_found, Part}
+use Rattle.jp_spine.proofs.RunLists.{nest_rows}
 use Rattle.jp_spine.proofs.SpineRows.{plain_run, plain_set, plain_legal, Ran, ran}
 use Rattle.jp_spine.proofs.WrittenLists.{clause_from_place, region_test, is_written}
 
@@ -129,12 +131,14 @@ module _ (query : Query) (items : List Item) (setting : Setting) (is_block : IsB
 
   record Spine : Type 0 where
     tree : Tree
+    is : spine query ≡ Some tree
+    nests : IsNested tree
     plan : IsPlan problem tree
     ran : Ran problem setting ok meets shape top tree
 
   the_spine : Spine
-  the_spine = let found = spine_is_plan query items is_block are in
-      record { tree = found.0; plan = found.2; ran = ran problem setting ok meets shape top (rooted query is_block).rooted found.0 found.1 found.2.legal }
+  the_spine = let found = spine_found query items is_block are in
+      record { tree = found.0; is = found.1; nests = found.3; plan = found.2; ran = ran problem setting ok meets shape top (rooted query is_block).rooted found.0 found.1 found.2.legal }
 
   -- the spine's list, map by map
   spine_list : map (env_of block.rels setting) (rows_of f (plain_run f the_spine.tree)) ≡ written_tuples block.rels setting shape top
@@ -158,3 +162,13 @@ module _ (query : Query) (items : List Item) (setting : Setting) (is_block : IsB
   pub every_order : (t : Tree) (r : Run) → IsPlan (problem_of items query) t → IsRunOf (frame_of (problem_of items query) setting) t r → IsPermutation (tuples_of_run (problem_of items query) setting r) (written_tuples (problem_rels (problem_of items query)) setting (block_shape query) top)
   every_order t r plan h = IsPermutation-trans (tuples_of_run problem setting r) (tuples (row_set f (items_of problem))) (written_tuples (problem_rels problem) setting shape top)
       (IsPermutation-map (env_of (problem_rels problem) setting) (rows_of f r) (row_set f (items_of problem)) (subst (λ n. IsPermutation (rows_of f r) (row_set f n)) plan.whole (run_bag problem setting made t r plan.legal h))) rows_written
+
+  same_tree : (t u : Tree) → Some t ≡ Some u → t ≡ u
+  same_tree t u e = cc
+
+  -- the list of every run of the spine, in its order
+  pub in_order : (t : Tree) (r : Run) → spine query ≡ Some t → IsRunOf (frame_of (problem_of items query) setting) t r → tuples_of_run (problem_of items query) setting r ≡ written_tuples (problem_rels (problem_of items query)) setting (block_shape query) top
+  in_order t r e h =
+      let here = subst (λ u. IsRunOf f u r) (same_tree t the_spine.tree (sym e ∙ the_spine.is)) h in
+      ap tuples (nest_rows problem setting ok meets the_spine.tree r the_spine.nests the_spine.plan.legal here)
+      ∙ ap (λ q. map (env_of q setting) (rows_of f (plain_run f the_spine.tree))) are ∙ spine_list ∙ ap (λ q. written_tuples q setting shape top) (sym are)

@@ -2,9 +2,12 @@ pub mod ActiveLaws
 pub mod BareLists
 pub mod BlockLaws
 pub mod ListLaws
-pub mod OwnConditions
-pub mod SpineRows
-pub mod WrittenLists
-pub mod Outside
 pub mod MeaningLaws
+pub mod Outside
+pub mod OwnConditions
+pub mod OwnSources
+pub mod RunLists
+pub mod SpineRows
+pub mod TreeTuples
 pub mod TupleLaws
+pub mod WrittenLists

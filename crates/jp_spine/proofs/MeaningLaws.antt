@@ -1,35 +1,31 @@
 -- The tuples of a block as it is written are, as a bag, those that its tree means.
 use Rattle.std.proofs.Common.{◌≡◌, ◌∙◌, ap, ap₂, sym, subst, refl, ℕ, ◌+◌, ◌<◌, inl, inr, ◌&&◌, Bool, true, List, [], ◌∷◌, ◌++◌, map, filter, fold, length, Some, None, arith}
-use Rattle.std.specs.Prelude.{bit_or, slice_get, nat_lt, if◌then◌else◌}
+use Rattle.std.specs.Prelude.{slice_get, if◌then◌else◌}
 use Rattle.std.specs.Int.{bit_at}
 use Rattle.std.specs.List.{flat_map, list_all}
 use Rattle.std.specs.List.Sorted.{IsPermutation}
 use Rattle.std.specs.Option.{option_map}
-use Rattle.std.proofs.lemmas.Bool.{and_parts, ltb-true, ne_eqb}
+use Rattle.std.proofs.lemmas.Bool.{and_parts, ne_eqb}
 use Rattle.std.proofs.lemmas.List.Elements.{filter-append}
 use Rattle.std.proofs.lemmas.List.Sorted.{IsPermutation-refl}
 use Rattle.std.proofs.lemmas.Option.{slice_get-map, slice_get_within}
 use Rattle.sqlite_keyed.proofs.ListLemmas.{IsPermutation-filter}
 use Rattle.jp_base.specs.Sets.{Has}
-use Rattle.jp_base.proofs.SetLemmas.{has_or}
-use Rattle.jp_base.proofs.MaskAlgebra.{has_none}
-use Rattle.jp_facts.proofs.Members.{In, from_map, from_flat_map, from_filter}
+use Rattle.jp_facts.proofs.Members.{In, from_map, from_flat_map}
 use Rattle.jp_induction.proofs.EachPart.{Each}
 use Rattle.jp_query.specs.declared.Expr.{Expr}
 use Rattle.jp_query.specs.declared.JoinKind.{JoinKind}
 use Rattle.jp_query.specs.declared.JoinKind.TheVariants as join
 use Rattle.jp_query.specs.declared.JoinTree.{JoinTree}
 use Rattle.jp_query.specs.declared.JoinTree.TheVariants as tree
-use Rattle.jp_query.specs.declared.Expr.TheOpen.{JoinTree-F}
 use Rattle.jp_query.specs.declared.Query.{Query, out-Query}
-use Rattle.jp_query.specs.Joins.{join_rels}
 use Rattle.jp_query.specs.Conditions.{all_true}
 use Rattle.jp_query.specs.InOrder.{passing_tuples}
-use Rattle.jp_query.specs.Meaning.{Row, Env, ValueIn, RowsIn, SortKey, Tuples, holds, with_row, with_rows, pairs, in_place, expr_value, tree_tuples, order_key, output_value, query_rows, join_tuples, extended, with_member, combined, rels_in, value_of, tuples_of, meaning}
+use Rattle.jp_query.specs.Meaning.{Row, Env, ValueIn, Tuples, holds, with_rows, pairs, join_tuples, extended, with_member, combined, value_of, tuples_of}
 use Rattle.jp_query.specs.NoRight.{expr_without_right, tree_without_right, order_without_right, output_without_right, query_without_right, has_no_right_in_tree, has_no_right_in_expr, is_no_right}
 use Rattle.jp_query.specs.Parts.{rels_of}
-use Rattle.jp_query.specs.Refs.{only, below_64}
-use Rattle.jp_query.specs.Typing.{Typed, TypedOutput, TypedQuery, expr_type, tree_typed, order_typed, output_typed, query_typed, tree_is_typed, type_of, typed_query, are_conditions, is_true_test}
+use Rattle.jp_query.specs.Refs.{below_64}
+use Rattle.jp_query.specs.Typing.{tree_is_typed, is_true_test}
 use Rattle.jp_query.proofs.FoldLaws as laws
 use Rattle.jp_query.proofs.RelsLaw.{rels_same}
 use Rattle.jp_laws.proofs.JoinBags.{join_bag}
@@ -44,15 +40,16 @@ use Rattle.jp_conditions.proofs.LaidBlocks.{one, typed_parts}
 use Rattle.jp_conditions.proofs.Laying.{low_bits, known_has, mapped_place, first_part, second_part}
 use Rattle.jp_conditions.proofs.Numbers.{at_place}
 use Rattle.jp_conditions.proofs.Shaping.{OfItems, of_left, of_right, among_items}
-use Rattle.jp_conditions.proofs.Spans.{has_span, has_only}
+use Rattle.jp_conditions.proofs.Spans.{has_span}
 use Rattle.jp_framed.specs.Environments.{Setting, Sublinks, source_at, HasNoOwnRows}
 use Rattle.jp_framed.proofs.MapRows.{from_rels}
 use Rattle.jp_spine.specs.ItemTuples.{in_place_over, HoldItems}
 use Rattle.jp_spine.specs.Written.{rels_of_number, written_tuples}
 use Rattle.jp_spine.proofs.ListLaws.{kept_all, flat_same}
-use Rattle.jp_spine.proofs.Outside.{AllOut, leaf_out, join_out, rest_out, inner_swapped, left_swapped, semi_swapped, anti_swapped}
+use Rattle.jp_spine.proofs.Outside.{inner_swapped, left_swapped, semi_swapped, anti_swapped}
+use Rattle.jp_spine.proofs.TreeTuples.{at_tree_join, at_tree_from, tree_out, tree_low, both_typed, members_typed}
 
-low_known : (x i : ℕ) → i < 64 → Has x i → Has (below_64 x) i
+pub low_known : (x i : ℕ) → i < 64 → Has x i → Has (below_64 x) i
 low_known x i low h = low_bits x i low ∙ h
 
 module _ (tables : ℕ → List Row) (outer : Env) (sources : List (List Env)) (all : List JoinTree)
@@ -78,17 +75,16 @@ module _ (tables : ℕ → List Row) (outer : Env) (sources : List (List Env)) (
   Stands first xs = (k : ℕ) (t : JoinTree) → slice_get xs k ≡ Some t → slice_get all (first + k) ≡ Some t
 
   -- what holds of a list of tuples that a shape has
-  record Has_ (shape : Shape) (at : Place) (xs : List Env) : Type 0 where
+  record Listed (shape : Shape) (at : Place) (xs : List Env) : Type 0 where
     same : IsPermutation (W shape at) xs
     out : (x : Env) → In x xs → (rel : ℕ) → (OfItems shape rel → ⊥) → x rel ≡ outer rel
 
   pub record Meant (t : JoinTree) : Type 0 where
-    pub low : (i : ℕ) → Has (N t) i → i < 64
-    pub out : AllOut outer (N t) (X t)
+    pub typed : tree_is_typed t ≡ true
     pub same : (at : Place) → Stands at.items (items_in (shape_of t)) → IsPermutation (W (shape_of t) at) (X t)
 
-  outside : (t : JoinTree) → Meant t → (x : Env) → In x (X t) → (rel : ℕ) → (OfItems (shape_of t) rel → ⊥) → x rel ≡ outer rel
-  outside t m x h rel none = m.out x h rel (λ p. none (among_items t rel (subst (λ n. Has n rel) (rels_same tables t) p)))
+  outside : (t : JoinTree) → (x : Env) → In x (X t) → (rel : ℕ) → (OfItems (shape_of t) rel → ⊥) → x rel ≡ outer rel
+  outside t x h rel none = tree_out tables outer t x h rel (λ p. none (among_items t rel (subst (λ n. Has n rel) (rels_same tables t) p)))
 
   -- ---- a tree behind a shape
 
@@ -129,12 +125,12 @@ module _ (tables : ℕ → List Row) (outer : Env) (sources : List (List Env)) (
         let inside = slice_get_within (items_in s) k.0 left.0 k.1 in
         omega (arith, same, span.0, inside)
 
-    module _ (xs : List Env) (left : Has_ s at xs) (m : Meant t) where
+    module _ (xs : List Env) (left : Listed s at xs) (m : Meant t) where
       left_none : (u : Env) → In u xs → (rel : ℕ) → Has (rels_at rels R) rel → u rel ≡ None
       left_none u h rel p = left.out u h rel (not_left rel p) ∙ clear_there rel p
 
       right_none : (v : Env) → In v (X t) → (rel : ℕ) → Has (rels_at rels R) rel → ¬ Has (N t) rel → v rel ≡ None
-      right_none v h rel p n = m.out v h rel n ∙ clear_there rel p
+      right_none v h rel p n = tree_out tables outer t v h rel n ∙ clear_there rel p
 
       moved : (kind : JoinKind) (on : List ValueIn) (l : ℕ) → join_tuples kind on l xs (rels_at rels R) (X t) ≡ join_tuples kind on l xs (N t) (X t) → (here : Place) → here.items ≡ at.items + length (items_in s)
           → IsPermutation (join_tuples kind on l (W s at) (rels_at rels R) (W (shape_of t) here)) (join_tuples kind on l xs (N t) (X t))
@@ -142,16 +138,16 @@ module _ (tables : ℕ → List Row) (outer : Env) (sources : List (List Env)) (
           (join_bag kind on l (rels_at rels R) (W s at) xs (W (shape_of t) here) (X t) left.same (m.same here (subst (λ n. Stands n (items_in (shape_of t))) (sym is) stands_right)))
 
       inner_moved : (on : List ValueIn) (l : ℕ) → IsPermutation (join_tuples join.Inner on l (W s at) (rels_at rels R) (W (shape_of t) (behind s at))) (join_tuples join.Inner on l xs (N t) (X t))
-      inner_moved on l = moved join.Inner on l (inner_swapped on l (rels_at rels R) (N t) xs (X t) (wider m.low) left_none right_none) (behind s at) refl
+      inner_moved on l = moved join.Inner on l (inner_swapped on l (rels_at rels R) (N t) xs (X t) (wider (tree_low tables t m.typed)) left_none right_none) (behind s at) refl
 
       left_moved : (on : List ValueIn) (l : ℕ) → IsPermutation (join_tuples join.Left on l (W s at) (rels_at rels R) (W (shape_of t) (in_right_side s (shape_of t) at))) (join_tuples join.Left on l xs (N t) (X t))
-      left_moved on l = moved join.Left on l (left_swapped on l (rels_at rels R) (N t) xs (X t) (wider m.low) left_none right_none) (in_right_side s (shape_of t) at) refl
+      left_moved on l = moved join.Left on l (left_swapped on l (rels_at rels R) (N t) xs (X t) (wider (tree_low tables t m.typed)) left_none right_none) (in_right_side s (shape_of t) at) refl
 
       semi_moved : (on : List ValueIn) (l : ℕ) → IsPermutation (join_tuples join.Semi on l (W s at) (rels_at rels R) (W (shape_of t) (in_right_side s (shape_of t) at))) (join_tuples join.Semi on l xs (N t) (X t))
-      semi_moved on l = moved join.Semi on l (semi_swapped on l (rels_at rels R) (N t) xs (X t) (wider m.low) left_none right_none) (in_right_side s (shape_of t) at) refl
+      semi_moved on l = moved join.Semi on l (semi_swapped on l (rels_at rels R) (N t) xs (X t) (wider (tree_low tables t m.typed)) left_none right_none) (in_right_side s (shape_of t) at) refl
 
       anti_moved : (on : List ValueIn) (l : ℕ) → IsPermutation (join_tuples join.Anti on l (W s at) (rels_at rels R) (W (shape_of t) (in_right_side s (shape_of t) at))) (join_tuples join.Anti on l xs (N t) (X t))
-      anti_moved on l = moved join.Anti on l (anti_swapped on l (rels_at rels R) (N t) xs (X t) (wider m.low) left_none right_none) (in_right_side s (shape_of t) at) refl
+      anti_moved on l = moved join.Anti on l (anti_swapped on l (rels_at rels R) (N t) xs (X t) (wider (tree_low tables t m.typed)) left_none right_none) (in_right_side s (shape_of t) at) refl
 
   -- ---- each form of tree
 
@@ -159,27 +155,6 @@ module _ (tables : ℕ → List Row) (outer : Env) (sources : List (List Env)) (
   item_same t e at p =
       let q = subst (λ s. Stands at.items (items_in s)) e p in
       subst (λ s. IsPermutation (W s at) (X t)) (sym e) (of_item at.items t (subst (λ n. slice_get all n ≡ Some t) (omega arith) (q 0 t refl)))
-
-  abbrev at_tree_join : (kind : JoinKind) (left right : JoinTree) (on : List Expr) → tuples_of tables (tree.Join kind left right on) ≡ tree_tuples tables (JoinTree-F.Join kind (tuples_of tables left) (tuples_of tables right) (map (value_of tables) on))
-  at_tree_join = laws.at-Join ValueIn Tuples SortKey ValueIn RowsIn (expr_value in_place) (tree_tuples tables) order_key output_value query_rows
-
-  abbrev at_tree_from : (members : List JoinTree) (conds : List Expr) → tuples_of tables (tree.From members conds) ≡ tree_tuples tables (JoinTree-F.From (map (tuples_of tables) members) (map (value_of tables) conds))
-  at_tree_from = laws.at-From ValueIn Tuples SortKey ValueIn RowsIn (expr_value in_place) (tree_tuples tables) order_key output_value query_rows
-
-  leaf_meant : (t : JoinTree) (rel : ℕ) (rows : List Row) → shape_of t ≡ item t → N t ≡ only rel → X t ≡ map (with_row outer rel) rows → rel < 64 → Meant t
-  leaf_meant t rel rows e n x low = record {
-    low = λ i h. let same = has_only rel i (subst (λ k. Has k i) n h) in omega (arith, same, low);
-    out = subst (λ k. AllOut outer k (X t)) (sym n) (subst (AllOut outer (only rel)) (sym x) (leaf_out outer rel rows));
-    same = item_same t e;
-  }
-
-  join_low : (kind : JoinKind) (a b i : ℕ) → (Has a i → i < 64) → (Has b i → i < 64) → Has (join_rels kind a b) i → i < 64
-  join_low join.Inner a b i f g h = elim ((has_or a b i).0 h) [ inl p ↦ f p | inr p ↦ g p ]
-  join_low join.Left a b i f g h = elim ((has_or a b i).0 h) [ inl p ↦ f p | inr p ↦ g p ]
-  join_low join.Right a b i f g h = elim ((has_or a b i).0 h) [ inl p ↦ f p | inr p ↦ g p ]
-  join_low join.Full a b i f g h = elim ((has_or a b i).0 h) [ inl p ↦ f p | inr p ↦ g p ]
-  join_low join.Semi a b i f g h = f h
-  join_low join.Anti a b i f g h = f h
 
   each_pair : (n : ℕ) (vs : List Env) (u : Env) → pairs [] n vs u ≡ map (with_rows n u) vs
   each_pair n vs u = kept_all (holds []) (map (with_rows n u) vs) (λ x. refl)
@@ -192,8 +167,8 @@ module _ (tables : ℕ → List Row) (outer : Env) (sources : List (List Env)) (
     abbrev values : List ValueIn
     values = map (value_of tables) on
 
-    first : (at : Place) → Stands at.items (items_in (shape_of left) ++ items_in (shape_of right)) → Has_ (shape_of left) at (X left)
-    first at p = record { same = a.same at (first_part all one_item at.items (items_in (shape_of left)) (items_in (shape_of right)) p); out = outside left a }
+    first : (at : Place) → Stands at.items (items_in (shape_of left) ++ items_in (shape_of right)) → Listed (shape_of left) at (X left)
+    first at p = record { same = a.same at (first_part all one_item at.items (items_in (shape_of left)) (items_in (shape_of right)) p); out = outside left }
 
     joined_same : (kind : JoinKind) → is_no_right kind ≡ true → (at : Place) → Stands at.items (items_in (joined kind (tree.Join kind left right on) (shape_of left) (shape_of right) on))
         → IsPermutation (W (joined kind (tree.Join kind left right on) (shape_of left) (shape_of right) on) at) (join_tuples kind (map (value_of tables) on) (N left) (X left) (N right) (X right))
@@ -205,16 +180,15 @@ module _ (tables : ℕ → List Row) (outer : Env) (sources : List (List Env)) (
     joined_same join.Anti ok at p = anti_moved (shape_of left) right at p (X left) (first at p) b values (N left)
     joined_same join.Right ok at p = cc
     joined_same join.Full ok at p =
-        subst (λ (t : Tuples). IsPermutation (W (item (tree.Join join.Full left right on)) at) (t.tuples outer)) (at_tree_join join.Full left right on)
+        subst (λ (t : Tuples). IsPermutation (W (item (tree.Join join.Full left right on)) at) (t.tuples outer)) (at_tree_join tables join.Full left right on)
         (of_item at.items (tree.Join join.Full left right on) (subst (λ n. slice_get all n ≡ Some (tree.Join join.Full left right on)) (omega arith) (p 0 (tree.Join join.Full left right on) refl)))
 
-    join_meant : (kind : JoinKind) → is_no_right kind ≡ true → Meant (tree.Join kind left right on)
-    join_meant kind ok =
-        let e = at_tree_join kind left right on in
+    join_meant : (kind : JoinKind) → is_no_right kind ≡ true → tree_is_typed (tree.Join kind left right on) ≡ true → Meant (tree.Join kind left right on)
+    join_meant kind ok typed =
+        let e = at_tree_join tables kind left right on in
         let s = at_join kind left right on in
         record {
-          low = λ i h. join_low kind (N left) (N right) i (a.low i) (b.low i) (subst (λ (t : Tuples). Has t.rels i) e h);
-          out = subst (λ (t : Tuples). AllOut outer t.rels (t.tuples outer)) (sym e) (join_out outer kind values (N left) (N right) (X left) (X right) a.out b.out);
+          typed = typed;
           same = λ at p. subst (λ (t : Tuples). IsPermutation (W (shape_of (tree.Join kind left right on)) at) (t.tuples outer)) (sym e)
               (subst (λ x. IsPermutation (W x at) (join_tuples kind values (N left) (X left) (N right) (X right))) (sym s) (joined_same kind ok at (subst (λ x. Stands at.items (items_in x)) s p)));
         }
@@ -225,7 +199,7 @@ module _ (tables : ℕ → List Row) (outer : Env) (sources : List (List Env)) (
   prefix first [] s p = p
   prefix first (t ∷ ts) s p = first_part all one_item first (items_in s) (items_in (shape_of t)) (prefix first ts (beside s (shape_of t)) p)
 
-  member_has : (s : Shape) (t : JoinTree) (at : Place) → Stands at.items (items_in s ++ items_in (shape_of t)) → (xs : List Env) → Has_ s at xs → Meant t → Has_ (beside s (shape_of t)) at (with_member outer xs (tuples_of tables t))
+  member_has : (s : Shape) (t : JoinTree) (at : Place) → Stands at.items (items_in s ++ items_in (shape_of t)) → (xs : List Env) → Listed s at xs → Meant t → Listed (beside s (shape_of t)) at (with_member outer xs (tuples_of tables t))
   member_has s t at p xs h m = record {
     same = subst (IsPermutation (W (beside s (shape_of t)) at)) (flat_same (pairs [] (N t) (X t)) (extended (tuples_of tables t) outer) xs (λ u k. each_pair (N t) (X t) u)) (inner_moved s t at p xs h m [] 0);
     out = λ x k rel none.
@@ -235,31 +209,22 @@ module _ (tables : ℕ → List Row) (outer : Env) (sources : List (List Env)) (
         ap (λ (z : Env). z rel) (sym v.2) ∙ ap (λ c. if c then v.0 rel else u.0 rel) (ne_eqb (bit_at (N t) rel) 1 not_there) ∙ h.out u.0 u.1 rel (λ q. none (of_left s (shape_of t) rel q));
   }
 
-  members_same : (ts : List JoinTree) (s : Shape) (xs : List Env) (at : Place) → Stands at.items (items_in (fold beside s (map shape_of ts))) → Each Meant ts → Has_ s at xs
+  members_same : (ts : List JoinTree) (s : Shape) (xs : List Env) (at : Place) → Stands at.items (items_in (fold beside s (map shape_of ts))) → Each Meant ts → Listed s at xs
       → IsPermutation (W (fold beside s (map shape_of ts)) at) (fold (with_member outer) xs (map (tuples_of tables) ts))
   members_same [] s xs at p each h = h.same
   members_same (t ∷ ts) s xs at p each h = members_same ts (beside s (shape_of t)) (with_member outer xs (tuples_of tables t)) at p each.1 (member_has s t at (prefix at.items ts (beside s (shape_of t)) p) xs h each.0)
 
-  fold_low : (ts : List JoinTree) (n i : ℕ) → Each Meant ts → (Has n i → i < 64) → Has (fold bit_or n (map rels_in (map (tuples_of tables) ts))) i → i < 64
-  fold_low [] n i each f h = f h
-  fold_low (t ∷ ts) n i each f h = fold_low ts (bit_or n (N t)) i each.1 (λ p. elim ((has_or n (N t) i).0 p) [ inl q ↦ f q | inr q ↦ each.0.low i q ]) h
+  start : (at : Place) → Listed nothing at (outer ∷ [])
+  start at = record { same = IsPermutation-refl (outer ∷ []); out = λ x h rel none. elim h [ inl e ↦ ap (λ (z : Env). z rel) (sym e) | inr gone ↦ absurd gone ] }
 
-  start_out : AllOut outer 0 (outer ∷ [])
-  start_out x (inl e) rel none = ap (λ (z : Env). z rel) (sym e)
-  start_out x (inr h) rel none = absurd h
-
-  start : (at : Place) → Has_ nothing at (outer ∷ [])
-  start at = record { same = IsPermutation-refl (outer ∷ []); out = λ x h rel none. start_out x h rel (has_none rel) }
-
-  from_meant : (members : List JoinTree) (conds : List Expr) → Each Meant members → Meant (tree.From members conds)
-  from_meant members conds each =
-      let e = at_tree_from members conds in
+  from_meant : (members : List JoinTree) (conds : List Expr) → Each Meant members → tree_is_typed (tree.From members conds) ≡ true → Meant (tree.From members conds)
+  from_meant members conds each typed =
+      let e = at_tree_from tables members conds in
       let s = at_from members conds in
       let ts = map (tuples_of tables) members in
       let test = holds (map (value_of tables) conds) in
       record {
-        low = λ i h. fold_low members 0 i each (λ p. absurd (has_none i p)) (subst (λ (t : Tuples). Has t.rels i) e h);
-        out = subst (λ (t : Tuples). AllOut outer t.rels (t.tuples outer)) (sym e) (λ x h. rest_out outer 0 (outer ∷ []) ts start_out x (from_filter test x (combined ts outer) h).1);
+        typed = typed;
         same = λ at p. subst (λ (t : Tuples). IsPermutation (W (shape_of (tree.From members conds)) at) (t.tuples outer)) (sym e)
             (subst (λ x. IsPermutation (W x at) (filter test (combined ts outer))) (sym s)
             (IsPermutation-filter test (W (together (map shape_of members)) at) (combined ts outer) (members_same members nothing (outer ∷ []) at (subst (λ x. Stands at.items (items_in x)) s p) each (start at))));
@@ -277,33 +242,23 @@ module _ (tables : ℕ → List Row) (outer : Env) (sources : List (List Env)) (
       let b = and_parts (has_no_right_in_tree t) (all_true (map has_no_right_in_tree ts)) f in
       (each.0 a.0 b.0, each_meant ts each.1 a.1 b.1)
 
-  base_claim : (rel : ℕ) (name : List ℕ) (table : ℕ) → Claim (tree.Base rel name table)
-  base_claim rel name table typed no_right =
-      let e = laws.at-Base ValueIn Tuples SortKey ValueIn RowsIn (expr_value in_place) (tree_tuples tables) order_key output_value query_rows rel name table in
-      leaf_meant (tree.Base rel name table) rel (tables table) (at_base rel name table) (ap (λ (t : Tuples). t.rels) e) (ap (λ (t : Tuples). t.tuples outer) e)
-      (ltb-true rel 64 (sym (laws.at-Base Typed Bool Typed TypedOutput TypedQuery expr_type tree_typed order_typed output_typed query_typed rel name table) ∙ typed))
-
-  sub_claim : (rel : ℕ) (name : List ℕ) (query : Query) → Claim (tree.Sub rel name query)
-  sub_claim rel name query typed no_right =
-      let e = laws.at-Sub ValueIn Tuples SortKey ValueIn RowsIn (expr_value in_place) (tree_tuples tables) order_key output_value query_rows rel name query in
-      leaf_meant (tree.Sub rel name query) rel (meaning tables query outer) (at_sub rel name query) (ap (λ (t : Tuples). t.rels) e) (ap (λ (t : Tuples). t.tuples outer) e)
-      (ltb-true rel 64 (and_parts (nat_lt rel 64) (typed_query query).is_typed (sym (laws.at-Sub Typed Bool Typed TypedOutput TypedQuery expr_type tree_typed order_typed output_typed query_typed rel name query) ∙ typed)).0)
+  leaf_claim : (t : JoinTree) → shape_of t ≡ item t → Claim t
+  leaf_claim t e typed no_right = record { typed = typed; same = item_same t e }
 
   join_claim : (kind : JoinKind) (left right : JoinTree) (on : List Expr) → Claim left → Claim right → Claim (tree.Join kind left right on)
   join_claim kind left right on p q typed no_right =
-      let a = and_parts (tree_is_typed left) (tree_is_typed right && are_conditions (map type_of on)) (sym (laws.at-Join Typed Bool Typed TypedOutput TypedQuery expr_type tree_typed order_typed output_typed query_typed kind left right on) ∙ typed) in
+      let a = both_typed kind left right on typed in
       let b = and_parts (is_no_right kind) (has_no_right_in_tree left && (has_no_right_in_tree right && all_true (map has_no_right_in_expr on))) (sym (laws.at-Join Bool Bool Bool Bool Bool expr_without_right tree_without_right order_without_right output_without_right query_without_right kind left right on) ∙ no_right) in
       let c = and_parts (has_no_right_in_tree left) (has_no_right_in_tree right && all_true (map has_no_right_in_expr on)) b.1 in
-      join_meant left right on (p a.0 c.0) (q (and_parts (tree_is_typed right) (are_conditions (map type_of on)) a.1).0 (and_parts (has_no_right_in_tree right) (all_true (map has_no_right_in_expr on)) c.1).0) kind b.0
+      join_meant left right on (p a.0 c.0) (q a.1 (and_parts (has_no_right_in_tree right) (all_true (map has_no_right_in_expr on)) c.1).0) kind b.0 typed
 
   from_claim : (members : List JoinTree) (conds : List Expr) → Each Claim members → Claim (tree.From members conds)
   from_claim members conds each typed no_right =
-      let a = and_parts (list_all is_true_test (map tree_is_typed members)) (are_conditions (map type_of conds)) (sym (laws.at-From Typed Bool Typed TypedOutput TypedQuery expr_type tree_typed order_typed output_typed query_typed members conds) ∙ typed) in
       let b = and_parts (all_true (map has_no_right_in_tree members)) _ (sym (laws.at-From Bool Bool Bool Bool Bool expr_without_right tree_without_right order_without_right output_without_right query_without_right members conds) ∙ no_right) in
-      from_meant members conds (each_meant members each a.0 b.0)
+      from_meant members conds (each_meant members each (members_typed members conds typed) b.0) typed
 
   pub meant : (t : JoinTree) → Claim t
-  meant = by_form Claim (record { base = base_claim; sub = sub_claim; join = join_claim; from = from_claim })
+  meant = by_form Claim (record { base = λ rel name table. leaf_claim (tree.Base rel name table) (at_base rel name table); sub = λ rel name query. leaf_claim (tree.Sub rel name query) (at_sub rel name query); join = join_claim; from = from_claim })
 
 -- ---- a block
 

@@ -3,12 +3,9 @@ use Rattle.std.proofs.Common.{◌≡◌, ◌∙◌, ap, ap₂, sym, subst, refl,
 use Rattle.std.specs.Prelude.{bit_or}
 use Rattle.std.specs.List.{flat_map}
 use Rattle.std.proofs.lemmas.List.{append-nil}
-use Rattle.jp_base.proofs.SetLemmas.{same_set, has_or}
-use Rattle.jp_base.proofs.MaskAlgebra.{has_none, in_left}
 use Rattle.jp_facts.proofs.Members.{In, from_filter}
 use Rattle.jp_query.specs.declared.Expr.{Expr}
 use Rattle.jp_query.specs.declared.JoinKind.{JoinKind}
-use Rattle.jp_query.specs.Refs.{only}
 use Rattle.jp_problem.specs.declared.types.Method.TheVariants.{Nest}
 use Rattle.jp_problem.specs.declared.types.Place.{Place}
 use Rattle.jp_problem.specs.declared.types.Problem.{Problem}
@@ -21,6 +18,7 @@ use Rattle.jp_problem.specs.Shapes.{Shape, nothing, item, beside, filtered, spec
 use Rattle.jp_problem.specs.Trees.{Tree, set_of, IsLegalTree, stepped, spine_at}
 use Rattle.jp_problem.specs.Trees.Tree.{Scan, Join}
 use Rattle.jp_conditions.proofs.Places.{IsRooted, items_beside}
+use Rattle.jp_conditions.proofs.SpineLaws.{one_item, behind_none, before_none}
 use Rattle.jp_frame.specs.Maps.{Map, Agree, both}
 use Rattle.jp_frame.specs.Frames.{Frame, IsFrame}
 use Rattle.jp_frame.specs.Legal.{IsInnerStep, IsStepBy, IsByPlace}
@@ -35,15 +33,6 @@ use Rattle.jp_framed.specs.Running.{step_of}
 use Rattle.jp_framed.proofs.StepLaws.{legal_from}
 use Rattle.jp_spine.proofs.ActiveLaws.{active_test, place, inner_test, by_test, each_with, inner_rows, by_rows}
 use Rattle.jp_spine.proofs.BareLists.{bare, lain, joined_from}
-
-one_item : (first : ℕ) → only first ≡ span first 1
-one_item first = same_set (only first) (span first 1) (λ i. (λ h. in_left (only first) (span (suc first) 0) i h, λ h. elim ((has_or (only first) 0 i).0 h) [ inl p ↦ p | inr p ↦ absurd (has_none i p) ]))
-
-behind_none : (first m n : ℕ) → m ≡ 0 → span (first + m) n ≡ span first (m + n)
-behind_none first m n e = let p : first + m ≡ first = omega (arith, e) in let q : n ≡ m + n = omega (arith, e) in ap₂ span p q
-
-before_none : (first m n : ℕ) → n ≡ 0 → span first m ≡ span first (m + n)
-before_none first m n e = let q : m ≡ m + n = omega (arith, e) in ap (span first) q
 
 -- nothing is added by a map without rows
 with_none : (n : ℕ) (m : Map) → length m ≡ n → both (none_row n) m ≡ m

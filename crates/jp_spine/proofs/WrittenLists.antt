@@ -1,5 +1,5 @@
 -- The tuples of a shape as it is written are those of its list of maps, filtered by the conditions of the shape's own region.
-use Rattle.std.proofs.Common.{◌≡◌, ◌∙◌, ap, ap₂, sym, refl, ℕ, zero, suc, ◌+◌, ◌<◌, ◌≤◌, ◌⊎◌, inl, inr, Bool, true, false, not, ◌&&◌, List, [], ◌∷◌, ◌++◌, map, filter, length, length-append, get_or, None, arith}
+use Rattle.std.proofs.Common.{◌≡◌, ◌∙◌, ap, ap₂, sym, refl, ℕ, suc, ◌+◌, ◌<◌, ◌≤◌, ◌⊎◌, inl, inr, Bool, true, false, not, ◌&&◌, List, [], ◌∷◌, ◌++◌, map, filter, length, length-append, get_or, arith}
 use mathlib.Core.Path.{fun_ext}
 use Rattle.std.specs.List.{list_all, flat_map}
 use Rattle.std.proofs.lemmas.Bool.{and_parts, and_from}
@@ -33,7 +33,7 @@ use Rattle.jp_conditions.proofs.Numbers.{number_at, one_numbered}
 use Rattle.jp_conditions.proofs.Places.{written_no}
 use Rattle.jp_conditions.proofs.Sources.{special_no}
 use Rattle.jp_conditions.proofs.Spans.{spans_apart}
-use Rattle.jp_frame.specs.Maps.{Map, at as row_of, Agree, both, NoneOn}
+use Rattle.jp_frame.specs.Maps.{Map, Agree, both, NoneOn}
 use Rattle.jp_frame.specs.Frames.{Frame, IsFrame, Kind, Left, Semi, Anti}
 use Rattle.jp_frame.specs.Legal.{IsByPlace, IsActive}
 use Rattle.jp_frame.specs.Methods.{none_row, joined_rows}
@@ -46,15 +46,10 @@ use Rattle.jp_framed.proofs.MapRows.{own_row, other_row}
 use Rattle.jp_framed.proofs.Reading.{join_stands, join_there, clause_stands, clause_placed, list_agrees}
 use Rattle.jp_spine.specs.Written.{special_tuples, rels_of_number, written_tuples}
 use Rattle.jp_spine.proofs.ActiveLaws.{active_test, active_says, same_truth, inner_rows, filter_same}
-use Rattle.jp_spine.proofs.BareLists.{bare, Lain, lain, joined_from}
+use Rattle.jp_spine.proofs.BareLists.{bare, none_at, Lain, lain, joined_from}
 use Rattle.jp_spine.proofs.ListLaws.{and_assoc, kept_all, filter_twice, all_split, all_append, flat_same, kept_before, joined_alike}
 use Rattle.jp_spine.proofs.OwnConditions.{own_conds, side_members, side_conds, placed_own, own_seen, Part, part_filtered, part_left, part_right, special_left, special_right, this_join, side_found, side_placed}
 use Rattle.jp_spine.proofs.SpineRows.{HasPlaces}
-
-none_at : (n i : ℕ) → row_of (none_row n) i ≡ None
-none_at zero i = refl
-none_at (suc n) zero = refl
-none_at (suc n) (suc i) = none_at n i
 
 -- ---- lists of conditions
 

@@ -18,3 +18,6 @@ in_place_over tables sources outer = record { sources = sources; sublinks = Subl
 abbrev pub HoldItems : (ℕ → List Row) → Query → List (List Env) → Env → Type 0
 HoldItems tables query sources outer =
     (i : ℕ) (tree : JoinTree) → slice_get (items_in (block_shape query)) i ≡ Some tree → IsPermutation (map (with_rows (rels_of_number (item_rels (block_shape query)) i) outer) (source_at sources i)) ((tuples_of tables tree).tuples outer)
+
+abbrev pub tuples_in : (ℕ → List Row) → Env → JoinTree → List Env
+tuples_in tables outer tree = (tuples_of tables tree).tuples outer

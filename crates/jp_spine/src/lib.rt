@@ -5,9 +5,11 @@
 #![tactic(auto)]
 
 mod meaning;
+mod sources;
 mod spine;
 
 pub use meaning::{
     every_legal_tree_gives_the_rows_of_the_query, every_legal_tree_gives_the_tuples_of_the_block,
 };
+pub use sources::tuples_of_items_hold_them;
 pub use spine::the_spine_gives_the_written_tuples;
