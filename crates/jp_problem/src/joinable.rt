@@ -85,7 +85,7 @@ pub fn is_left(kind: JoinKind) -> bool
 }
 
 /// Whether all that the join needs lies in the set.
-pub(crate) fn is_done(set: RelSet, s: &Special) -> bool
+pub fn is_done(set: RelSet, s: &Special) -> bool
     ensures { result ≡ is_done set s.now }
 {
     is_within(s.min_left, set) && is_within(s.min_right, set)

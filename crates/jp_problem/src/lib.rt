@@ -16,7 +16,7 @@ mod types;
 
 pub use closing::{both_sets, closure, closures_are_least, requirement, stands_in, taken_by_right};
 pub use examples::{worked_joinable_sets, worked_minimum_sets};
-pub use joinable::{is_joinable, is_left};
+pub use joinable::{is_done, is_joinable, is_left};
 pub use keys::has_key;
 pub use regions::{is_open, join_of};
 pub use step_clauses::{new_clauses, scan_clauses};

@@ -2,6 +2,7 @@ ghost use Rattle.std.specs.Prelude.{◌≡◌, ◌++◌, ◌∷◌, [], OnOk};
 
 use jp_base::{ItemNo, JoinNo, Memory, RelNo, RelSet};
 use jp_query::{Expr, JoinKind};
+use smallvec::SmallVec;
 use sqlite_items::Items;
 use std::alloc::Global;
 use std::marker::Model;
@@ -164,7 +165,7 @@ pub struct Stage {
 /// The few clauses that are tested at a step or a scan; seen as their list.
 #[derive(Drop)]
 pub struct StepClauses {
-    list: Vec<Expr>,
+    list: SmallVec<Expr, 4>,
 }
 
 impl Model for StepClauses {
@@ -186,7 +187,7 @@ impl StepClauses {
         ensures { result ≡ [] }
     {
         StepClauses {
-            list: Vec::new(alloc),
+            list: SmallVec::new(alloc),
         }
     }
 

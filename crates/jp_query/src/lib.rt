@@ -100,6 +100,21 @@ pub enum Expr {
     InSub(SubNo, Boxed<Expr>, Boxed<Query>),
 }
 
+/// The blank of a list that keeps places inline; no list that is seen holds it.
+impl Default for Expr {
+    ghost use Rattle.std.specs.Prelude.{◌≡◌};
+    ghost use Rattle.jp_base.specs.declared.values.Value.TheVariants.{Null};
+    ghost use Rattle.jp_base.specs.declared.values.Ty.TheVariants.{Text};
+    ghost use Rattle.jp_query.specs.declared.Expr.TheViews.{roll-Expr};
+    ghost use Rattle.jp_query.specs.Layers.{Expr-F};
+
+    ghost is_default = { λ expr. expr ≡ roll-Expr (Expr-F.Lit Null Text) };
+
+    fn default() -> Expr {
+        Expr::Lit(Value::Null, Ty::Text)
+    }
+}
+
 /// One column of a query's rows.
 #[cycle(query)]
 #[derive(Drop)]
