@@ -36,7 +36,7 @@ fn first_of(al: Global, a: Expr, b: Expr) -> Result<Expr, Fail> {
     Ok(Expr::Coalesce(members))
 }
 
-fn condition(al: Global, cond: &Cond) -> Result<Expr, Fail> {
+pub fn condition(al: Global, cond: &Cond) -> Result<Expr, Fail> {
     match cond {
         Cond::Eq(a, b) => {
             let a = Boxed::new(al, term(al, *a)?)?;
@@ -91,6 +91,12 @@ fn join(
     })
 }
 
+fn from(al: Global, member: JoinTree, conds: Items<Expr>) -> Result<JoinTree, Fail> {
+    let mut members = Items::new(al);
+    members.push(member)?;
+    Ok(JoinTree::From { members, conds })
+}
+
 /// The tree that a list in post-order says.
 fn tree(al: Global, ops: &[Op]) -> Result<JoinTree, Fail> {
     let mut stack = Vec::new(al);
@@ -116,6 +122,11 @@ fn applied(al: Global, op: &Op, stack: &mut Vec<JoinTree>) -> Result<JoinTree, F
             let left = top(stack)?;
             let on = conditions(al, on)?;
             join(al, *kind, left, right, on)
+        }
+        Op::From(conds) => {
+            let member = top(stack)?;
+            let conds = conditions(al, conds)?;
+            from(al, member, conds)
         }
     }
 }

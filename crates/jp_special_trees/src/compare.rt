@@ -1,11 +1,18 @@
 #![tactic(auto, using(crate::proofs::SizeLaws::small_has_few, crate::proofs::SizeLaws::small_has_room))]
 
-use crate::build::{query, set};
+ghost use Rattle.std.specs.Prelude.{◌≤◌};
+ghost use Rattle.jp_query.specs.declared.Query.{out-Query};
+ghost use Rattle.jp_special_trees.specs.Sizes.{size};
+
+use crate::build::{condition, query, set};
 use crate::sizes::measure;
-use crate::table::{Facts, Known};
-use jp_base::{JoinNo, RelSet};
-use jp_problem::sets::or_if_empty;
-use jp_problem::{Outline, Placed, Problem, Special, Step, is_joinable, requirement, step_kind};
+use crate::table::{Cond, Facts, Known};
+use jp_base::{ItemNo, JoinNo, RelSet};
+use jp_problem::{
+    Clause, Problem, Special, Step, is_joinable, new_clauses, scan_clauses, step_kind,
+};
+use jp_quals::clauses_of;
+use jp_query::{Expr, Query, is_same};
 use jp_special::{outline, specials_in};
 use sqlite_items::Items;
 use std::alloc::Global;
@@ -21,22 +28,33 @@ pub fn check(rt: &impl Abort, al: Global, facts: &Facts) -> Result<(), Fail> {
     if measure(&query.tree)? > 64 {
         return Err(Fail::from("a large tree"));
     }
-    let outline = outline(al, &query)?;
-    let found = specials_in(al, &outline)?;
-    check_joins(rt, found.as_slice(), facts);
-    check_clauses(rt, al, outline.clauses.as_slice(), found.as_slice(), facts)?;
-    let mut joins = Items::new(al);
-    for s in found {
-        joins.push(s)?;
-    }
-    let problem = Problem {
-        items: Items::new(al),
-        joins,
-        clauses: Items::new(al),
-        classes: Items::new(al),
-    };
+    let problem = distributed(al, &query)?;
+    check_joins(rt, problem.joins.as_slice(), facts);
+    check_clauses(rt, al, problem.clauses.as_slice(), facts)?;
+    check_scans(rt, al, &problem, facts)?;
+    check_spine(rt, al, &problem, facts)?;
     check_sets(rt, &problem, facts);
     Ok(())
+}
+
+/// The problem of a query without its items, as `distribute` makes it.
+fn distributed(al: Global, query: &Query) -> Result<Problem, Fail>
+    requires { size (out-Query query.now).tree ≤ 64 }
+{
+    let outline = outline(al, query)?;
+    let found = specials_in(al, &outline)?;
+    let clauses = clauses_of(
+        al,
+        outline.rels.as_slice(),
+        found.as_slice(),
+        outline.clauses.as_slice(),
+    )?;
+    Ok(Problem {
+        items: Items::new(al),
+        joins: Items::from_vec(found),
+        clauses,
+        classes: Items::new(al),
+    })
 }
 
 fn check_joins(rt: &impl Abort, found: &[Special], facts: &Facts) {
@@ -62,18 +80,16 @@ fn check_join(rt: &impl Abort, s: &Special, known: &Known) {
 fn check_clauses(
     rt: &impl Abort,
     al: Global,
-    clauses: &[Placed],
-    joins: &[Special],
+    clauses: &[Clause],
     facts: &Facts,
 ) -> Result<(), Fail> {
     assert_eq!(rt; clauses.len(), facts.clauses.len());
     for (k, c) in clauses.iter().enumerate() {
         match facts.clauses.get(k) {
-            Some((region, needs)) => {
-                let side = side_of(joins, facts, *region);
-                let found = requirement(al, joins, side, or_if_empty(c.uses, side))?;
+            Some((cond, region, needs)) => {
+                assert!(rt; is_same(&c.expr, &condition(al, cond)?), "another clause");
                 assert_eq!(rt; c.region, *region);
-                assert_eq!(rt; found, set(needs));
+                assert_eq!(rt; c.req, set(needs));
             }
             None => assert!(rt; false, "a clause too many"),
         }
@@ -81,14 +97,46 @@ fn check_clauses(
     Ok(())
 }
 
-/// The right side of a join, or all items.
-fn side_of(joins: &[Special], facts: &Facts, region: JoinNo) -> RelSet {
-    for s in joins {
-        if s.no == region {
-            return s.syn_right;
+/// At the scan of each item its own conditions are tested, and no others.
+fn check_scans(rt: &impl Abort, al: Global, problem: &Problem, facts: &Facts) -> Result<(), Fail> {
+    for item in 0..4 {
+        let found = scan_clauses(al, problem, item)?;
+        check_conditions(rt, al, found.items(), scanned(facts, item))?;
+    }
+    Ok(())
+}
+
+fn scanned(facts: &Facts, item: ItemNo) -> &'static [Cond] {
+    for (scan, conds) in facts.scans {
+        if *scan == item {
+            return conds;
         }
     }
-    set(facts.items)
+    &[]
+}
+
+fn check_spine(rt: &impl Abort, al: Global, problem: &Problem, facts: &Facts) -> Result<(), Fail> {
+    for (left, right, conds) in facts.spine {
+        let found = new_clauses(al, problem, set(left), set(right))?;
+        check_conditions(rt, al, found.items(), conds)?;
+    }
+    Ok(())
+}
+
+fn check_conditions(
+    rt: &impl Abort,
+    al: Global,
+    found: &[Expr],
+    conds: &[Cond],
+) -> Result<(), Fail> {
+    assert_eq!(rt; found.len(), conds.len());
+    for (k, expr) in found.iter().enumerate() {
+        match conds.get(k) {
+            Some(cond) => assert!(rt; is_same(expr, &condition(al, cond)?), "another condition"),
+            None => assert!(rt; false, "a condition too many"),
+        }
+    }
+    Ok(())
 }
 
 fn check_sets(rt: &impl Abort, problem: &Problem, facts: &Facts) {

@@ -6,7 +6,7 @@ ghost use Rattle.jp_special_trees.specs.Sizes.{size};
 use jp_query::JoinTree;
 use std::test::Fail;
 
-/// No fewer than the items and special joins of a small tree of tables and joins.
+/// No fewer than the items and special joins of a small tree of tables, joins and FROM lists of one member.
 pub fn measure(tree: &JoinTree) -> Result<usize, Fail>
     ensures { IfOk result (λ n. size tree.now ≤ n) }
 {
@@ -20,6 +20,10 @@ pub fn measure(tree: &JoinTree) -> Result<usize, Fail>
             }
             Ok(left + right + 1)
         }
+        JoinTree::From { members, .. } => match members.as_slice() {
+            [member] => measure(member),
+            _ => Err(Fail::from("another FROM list")),
+        },
         _ => Err(Fail::from("another tree")),
     }
 }

@@ -1,4 +1,4 @@
-use jp_base::{JoinNo, RelNo};
+use jp_base::{ItemNo, JoinNo, RelNo};
 use jp_query::JoinKind;
 
 /// A column, or COALESCE of one and 0 or another one.
@@ -24,6 +24,8 @@ pub enum Cond {
 pub enum Op {
     Leaf(RelNo),
     Join(JoinKind, &'static [Cond]),
+    /// A FROM list of one member.
+    From(&'static [Cond]),
 }
 
 /// A special join: its kind, its two sides, its two sets, its region and how many members its own list has.
@@ -36,15 +38,17 @@ pub struct Known {
 }
 
 /// A tree with its WHERE list and the relations of a placeholder among the outputs, and what is known of it: its items,
-/// its joins, its clauses by region and requirement, the joinable sets, and legal steps, with 0 for an inner one. `whole`
-/// says that these are all.
+/// its joins, its clauses with region and requirement, the clauses that are tested at scans and at the steps of its spine,
+/// the joinable sets, and legal steps, with 0 for an inner one. `whole` says that these are all.
 pub struct Facts {
     pub tree: &'static [Op],
     pub conds: &'static [Cond],
     pub place: &'static str,
     pub items: &'static str,
     pub joins: &'static [Known],
-    pub clauses: &'static [(JoinNo, &'static str)],
+    pub clauses: &'static [(Cond, JoinNo, &'static str)],
+    pub scans: &'static [(ItemNo, &'static [Cond])],
+    pub spine: &'static [(&'static str, &'static str, &'static [Cond])],
     pub joinable: &'static [&'static str],
     pub steps: &'static [(&'static str, &'static str, JoinNo)],
     pub whole: bool,

@@ -27,7 +27,12 @@ const TREE_1: Facts = Facts {
         region: 0,
         members: 0,
     }],
-    clauses: &[(0, "ab")],
+    clauses: &[(Cond::Eq(Term::X(0), Term::X(1)), 0, "ab")],
+    scans: &[],
+    spine: &[
+        ("a", "b", &[Cond::Eq(Term::X(0), Term::X(1))]),
+        ("ab", "c", &[]),
+    ],
     joinable: &["a", "b", "c", "ab", "abc"],
     steps: &[("a", "b", 0), ("b", "a", 0), ("ab", "c", 1)],
     whole: true,
@@ -73,6 +78,8 @@ const TREE_2: Facts = Facts {
         },
     ],
     clauses: &[],
+    scans: &[],
+    spine: &[("a", "b", &[]), ("ab", "c", &[])],
     joinable: &["a", "b", "c", "ab", "bc", "abc"],
     steps: &[("a", "b", 1), ("a", "bc", 1), ("b", "c", 2), ("ab", "c", 2)],
     whole: true,
@@ -112,6 +119,8 @@ const TREE_3: Facts = Facts {
         },
     ],
     clauses: &[],
+    scans: &[],
+    spine: &[("a", "b", &[]), ("ab", "c", &[])],
     joinable: &["a", "b", "c", "ab", "abc"],
     steps: &[("a", "b", 1), ("ab", "c", 2)],
     whole: true,
@@ -151,6 +160,8 @@ const TREE_4: Facts = Facts {
         },
     ],
     clauses: &[],
+    scans: &[],
+    spine: &[("a", "b", &[]), ("ab", "c", &[])],
     joinable: &["a", "b", "c", "ab", "abc"],
     steps: &[("a", "b", 1), ("ab", "c", 2)],
     whole: true,
@@ -199,6 +210,8 @@ const TREE_5: Facts = Facts {
         },
     ],
     clauses: &[],
+    scans: &[],
+    spine: &[("b", "c", &[]), ("a", "bc", &[]), ("abc", "d", &[])],
     joinable: &["a", "b", "c", "d", "ab", "bc", "abc", "abcd"],
     steps: &[],
     whole: false,
@@ -239,7 +252,13 @@ const TREE_6: Facts = Facts {
             members: 1,
         },
     ],
-    clauses: &[(1, "bc")],
+    clauses: &[(Cond::Eq(Term::X(1), Term::X(2)), 1, "bc")],
+    scans: &[],
+    spine: &[
+        ("b", "c", &[Cond::Eq(Term::X(1), Term::X(2))]),
+        ("a", "bc", &[]),
+        ("abc", "d", &[]),
+    ],
     joinable: &["a", "b", "c", "d", "bc", "abc", "bcd", "abcd"],
     steps: &[("bc", "d", 2), ("a", "bcd", 1)],
     whole: false,
@@ -284,7 +303,9 @@ const TREE_7: Facts = Facts {
             members: 1,
         },
     ],
-    clauses: &[(2, "c")],
+    clauses: &[(Cond::NullIn(Term::X(2)), 2, "c")],
+    scans: &[(2, &[Cond::NullIn(Term::X(2))])],
+    spine: &[("a", "b", &[]), ("ab", "c", &[])],
     joinable: &["a", "b", "c", "ab", "abc"],
     steps: &[("a", "b", 1), ("ab", "c", 2)],
     whole: true,
@@ -324,6 +345,8 @@ const TREE_8: Facts = Facts {
         },
     ],
     clauses: &[],
+    scans: &[],
+    spine: &[("a", "b", &[]), ("ab", "c", &[])],
     joinable: &["a", "b", "c", "ab", "ac", "abc"],
     steps: &[("a", "b", 1), ("a", "c", 2), ("ab", "c", 2), ("ac", "b", 1)],
     whole: true,
@@ -372,6 +395,8 @@ const TREE_9: Facts = Facts {
         },
     ],
     clauses: &[],
+    scans: &[],
+    spine: &[("a", "b", &[]), ("ab", "c", &[]), ("abc", "d", &[])],
     joinable: &["a", "b", "c", "d", "ab", "bc", "abc", "abcd"],
     steps: &[],
     whole: false,
@@ -412,7 +437,13 @@ const TREE_10: Facts = Facts {
             members: 1,
         },
     ],
-    clauses: &[(1, "bc")],
+    clauses: &[(Cond::Eq(Term::X(1), Term::X(2)), 1, "bc")],
+    scans: &[],
+    spine: &[
+        ("b", "c", &[Cond::Eq(Term::X(1), Term::X(2))]),
+        ("a", "bc", &[]),
+        ("abc", "d", &[]),
+    ],
     joinable: &["a", "b", "c", "d", "bc", "abc", "abcd"],
     steps: &[],
     whole: false,
@@ -461,6 +492,8 @@ const TREE_11: Facts = Facts {
         },
     ],
     clauses: &[],
+    scans: &[],
+    spine: &[("b", "c", &[]), ("a", "bc", &[]), ("abc", "d", &[])],
     joinable: &["a", "b", "c", "d", "ab", "bc", "cd", "abc", "bcd", "abcd"],
     steps: &[
         ("c", "d", 3),
@@ -505,7 +538,9 @@ const TREE_12: Facts = Facts {
             members: 0,
         },
     ],
-    clauses: &[(2, "b")],
+    clauses: &[(Cond::IsNull(Term::X(1)), 2, "b")],
+    scans: &[(1, &[Cond::IsNull(Term::X(1))])],
+    spine: &[("b", "c", &[]), ("a", "bc", &[])],
     joinable: &["a", "b", "c", "bc", "abc"],
     steps: &[("a", "bc", 2), ("b", "c", 1)],
     whole: true,
@@ -545,6 +580,8 @@ const TREE_13: Facts = Facts {
         },
     ],
     clauses: &[],
+    scans: &[],
+    spine: &[("b", "c", &[]), ("a", "bc", &[])],
     joinable: &["a", "b", "c", "ab", "bc", "abc"],
     steps: &[("a", "b", 2), ("a", "bc", 2), ("b", "c", 1), ("ab", "c", 1)],
     whole: true,
@@ -575,6 +612,8 @@ const TREE_14: Facts = Facts {
         members: 1,
     }],
     clauses: &[],
+    scans: &[],
+    spine: &[("b", "c", &[]), ("a", "bc", &[])],
     joinable: &["a", "b", "c", "bc", "abc"],
     steps: &[("a", "bc", 1), ("b", "c", 0), ("c", "b", 0)],
     whole: true,
@@ -623,6 +662,8 @@ const TREE_15: Facts = Facts {
         },
     ],
     clauses: &[],
+    scans: &[],
+    spine: &[("b", "c", &[]), ("bc", "d", &[]), ("a", "bcd", &[])],
     joinable: &["a", "b", "c", "d", "bc", "bcd", "abcd"],
     steps: &[],
     whole: false,
@@ -671,6 +712,8 @@ const TREE_16: Facts = Facts {
         },
     ],
     clauses: &[],
+    scans: &[],
+    spine: &[("c", "d", &[]), ("b", "cd", &[]), ("a", "bcd", &[])],
     joinable: &["a", "b", "c", "d", "cd", "bcd", "abcd"],
     steps: &[],
     whole: false,
@@ -715,7 +758,12 @@ const TREE_17: Facts = Facts {
             members: 1,
         },
     ],
-    clauses: &[(2, "bc")],
+    clauses: &[(Cond::Eq(Term::X(1), Term::X(2)), 2, "bc")],
+    scans: &[],
+    spine: &[
+        ("b", "c", &[Cond::Eq(Term::X(1), Term::X(2))]),
+        ("a", "bc", &[]),
+    ],
     joinable: &["a", "b", "c", "bc", "abc"],
     steps: &[("a", "bc", 2), ("b", "c", 1)],
     whole: true,
@@ -756,7 +804,13 @@ const TREE_18: Facts = Facts {
             members: 1,
         },
     ],
-    clauses: &[(2, "bcd")],
+    clauses: &[(Cond::False, 2, "bcd")],
+    scans: &[],
+    spine: &[
+        ("b", "c", &[]),
+        ("bc", "d", &[Cond::False]),
+        ("a", "bcd", &[]),
+    ],
     joinable: &["a", "b", "c", "d", "bc", "bd", "bcd", "abcd"],
     steps: &[],
     whole: false,
@@ -796,6 +850,8 @@ const TREE_19: Facts = Facts {
         },
     ],
     clauses: &[],
+    scans: &[],
+    spine: &[("b", "c", &[]), ("a", "bc", &[])],
     joinable: &["a", "b", "c", "bc", "abc"],
     steps: &[("a", "bc", 2), ("b", "c", 1)],
     whole: true,
@@ -835,6 +891,8 @@ const TREE_20: Facts = Facts {
         },
     ],
     clauses: &[],
+    scans: &[],
+    spine: &[("b", "c", &[]), ("a", "bc", &[])],
     joinable: &["a", "b", "c", "ab", "bc", "abc"],
     steps: &[("a", "b", 2), ("a", "bc", 2), ("b", "c", 1), ("ab", "c", 1)],
     whole: true,
@@ -883,6 +941,8 @@ const TREE_21: Facts = Facts {
         },
     ],
     clauses: &[],
+    scans: &[],
+    spine: &[("b", "c", &[]), ("bc", "d", &[]), ("a", "bcd", &[])],
     joinable: &["a", "b", "c", "d", "bc", "cd", "bcd", "abcd"],
     steps: &[("c", "d", 2), ("b", "cd", 1)],
     whole: false,
@@ -922,6 +982,8 @@ const TREE_22: Facts = Facts {
         },
     ],
     clauses: &[],
+    scans: &[],
+    spine: &[("b", "c", &[]), ("a", "bc", &[])],
     joinable: &["a", "b", "c", "bc", "abc"],
     steps: &[("a", "bc", 2), ("b", "c", 1)],
     whole: true,
@@ -970,6 +1032,8 @@ const TREE_23: Facts = Facts {
         },
     ],
     clauses: &[],
+    scans: &[],
+    spine: &[("c", "d", &[]), ("b", "cd", &[]), ("a", "bcd", &[])],
     joinable: &["a", "b", "c", "d", "bc", "cd", "bcd", "abcd"],
     steps: &[],
     whole: false,
@@ -1009,6 +1073,8 @@ const TREE_24: Facts = Facts {
         },
     ],
     clauses: &[],
+    scans: &[],
+    spine: &[("b", "c", &[]), ("a", "bc", &[])],
     joinable: &["a", "b", "c", "bc", "abc"],
     steps: &[("a", "bc", 2), ("b", "c", 1)],
     whole: true,
@@ -1036,7 +1102,9 @@ const TREE_25: Facts = Facts {
         region: 0,
         members: 1,
     }],
-    clauses: &[(0, "ab")],
+    clauses: &[(Cond::Eq(Term::X(1), Term::X(1)), 0, "ab")],
+    scans: &[],
+    spine: &[("a", "b", &[Cond::Eq(Term::X(1), Term::X(1))])],
     joinable: &["a", "b", "ab"],
     steps: &[("a", "b", 1)],
     whole: true,
@@ -1064,7 +1132,9 @@ const TREE_26: Facts = Facts {
         region: 0,
         members: 0,
     }],
-    clauses: &[(1, "b")],
+    clauses: &[(Cond::IsNull(Term::Y(1)), 1, "b")],
+    scans: &[(1, &[Cond::IsNull(Term::Y(1))])],
+    spine: &[("a", "b", &[])],
     joinable: &["a", "b", "ab"],
     steps: &[("a", "b", 1)],
     whole: true,
@@ -1103,7 +1173,12 @@ const TREE_27: Facts = Facts {
             members: 1,
         },
     ],
-    clauses: &[(0, "abc")],
+    clauses: &[(Cond::Eq(Term::X(2), Term::X(2)), 0, "abc")],
+    scans: &[],
+    spine: &[
+        ("a", "b", &[]),
+        ("ab", "c", &[Cond::Eq(Term::X(2), Term::X(2))]),
+    ],
     joinable: &["a", "b", "c", "ab", "bc", "abc"],
     steps: &[("a", "b", 1), ("a", "bc", 1), ("b", "c", 2), ("ab", "c", 2)],
     whole: true,
@@ -1142,7 +1217,12 @@ const TREE_28: Facts = Facts {
             members: 1,
         },
     ],
-    clauses: &[(0, "abc")],
+    clauses: &[(Cond::Eq(Term::Y(0), Term::X(1)), 0, "abc")],
+    scans: &[],
+    spine: &[
+        ("b", "c", &[]),
+        ("a", "bc", &[Cond::Eq(Term::Y(0), Term::X(1))]),
+    ],
     joinable: &["a", "b", "c", "bc", "abc"],
     steps: &[("a", "bc", 2), ("b", "c", 1)],
     whole: true,
@@ -1182,6 +1262,8 @@ const TREE_30: Facts = Facts {
         },
     ],
     clauses: &[],
+    scans: &[],
+    spine: &[("b", "c", &[]), ("a", "bc", &[])],
     joinable: &["a", "b", "c", "ab", "bc", "abc"],
     steps: &[("a", "b", 2), ("a", "bc", 2), ("b", "c", 1), ("ab", "c", 1)],
     whole: true,
@@ -1211,7 +1293,12 @@ const TREE_31: Facts = Facts {
         region: 0,
         members: 1,
     }],
-    clauses: &[(0, "ab")],
+    clauses: &[(Cond::Eq(Term::X(0), Term::X(1)), 0, "ab")],
+    scans: &[],
+    spine: &[
+        ("a", "b", &[Cond::Eq(Term::X(0), Term::X(1))]),
+        ("ab", "c", &[]),
+    ],
     joinable: &["a", "b", "c", "ab", "ac", "abc"],
     steps: &[
         ("a", "b", 0),
@@ -1242,7 +1329,15 @@ const TREE_34: Facts = Facts {
     place: "",
     items: "abc",
     joins: &[],
-    clauses: &[(0, "ab"), (0, "ac")],
+    clauses: &[
+        (Cond::Eq(Term::X(0), Term::X(1)), 0, "ab"),
+        (Cond::Eq(Term::X(0), Term::X(2)), 0, "ac"),
+    ],
+    scans: &[],
+    spine: &[
+        ("a", "b", &[Cond::Eq(Term::X(0), Term::X(1))]),
+        ("ab", "c", &[Cond::Eq(Term::X(0), Term::X(2))]),
+    ],
     joinable: &["a", "b", "c", "ab", "ac", "bc", "abc"],
     steps: &[
         ("a", "b", 0),
@@ -1303,7 +1398,13 @@ const TREE_35: Facts = Facts {
             members: 0,
         },
     ],
-    clauses: &[(3, "bc")],
+    clauses: &[(Cond::Eq(Term::X(1), Term::X(2)), 3, "bc")],
+    scans: &[],
+    spine: &[
+        ("b", "c", &[Cond::Eq(Term::X(1), Term::X(2))]),
+        ("bc", "d", &[]),
+        ("a", "bcd", &[]),
+    ],
     joinable: &["a", "b", "c", "d", "bc", "bd", "bcd", "abcd"],
     steps: &[],
     whole: false,
@@ -1332,7 +1433,244 @@ const TREE_36: Facts = Facts {
         members: 1,
     }],
     clauses: &[],
+    scans: &[],
+    spine: &[("a", "b", &[])],
     joinable: &["a", "b", "ab"],
     steps: &[("a", "b", 1)],
+    whole: true,
+};
+
+/// a Left From(b; FALSE) ON a.x = b.x
+#[test]
+fn tree_29(rt: HostRuntime) -> Result<(), Fail> {
+    check(&rt, rt.alloc(), &TREE_29)
+}
+
+const TREE_29: Facts = Facts {
+    tree: &[
+        Op::Leaf(0),
+        Op::Leaf(1),
+        Op::From(&[Cond::False]),
+        Op::Join(JoinKind::Left, &[Cond::Eq(Term::X(0), Term::X(1))]),
+    ],
+    conds: &[],
+    place: "",
+    items: "ab",
+    joins: &[Known {
+        kind: JoinKind::Left,
+        sides: ("a", "b"),
+        sets: ("a", "b"),
+        region: 0,
+        members: 1,
+    }],
+    clauses: &[(Cond::False, 1, "b")],
+    scans: &[(1, &[Cond::False])],
+    spine: &[("a", "b", &[])],
+    joinable: &["a", "b", "ab"],
+    steps: &[("a", "b", 1)],
+    whole: true,
+};
+
+/// a Left From(b Left c ON b.x = c.x; c.x = b.x) ON a.x = b.x
+#[test]
+fn tree_32(rt: HostRuntime) -> Result<(), Fail> {
+    check(&rt, rt.alloc(), &TREE_32)
+}
+
+const TREE_32: Facts = Facts {
+    tree: &[
+        Op::Leaf(0),
+        Op::Leaf(1),
+        Op::Leaf(2),
+        Op::Join(JoinKind::Left, &[Cond::Eq(Term::X(1), Term::X(2))]),
+        Op::From(&[Cond::Eq(Term::X(2), Term::X(1))]),
+        Op::Join(JoinKind::Left, &[Cond::Eq(Term::X(0), Term::X(1))]),
+    ],
+    conds: &[],
+    place: "",
+    items: "abc",
+    joins: &[
+        Known {
+            kind: JoinKind::Left,
+            sides: ("b", "c"),
+            sets: ("b", "c"),
+            region: 2,
+            members: 1,
+        },
+        Known {
+            kind: JoinKind::Left,
+            sides: ("a", "bc"),
+            sets: ("a", "bc"),
+            region: 0,
+            members: 1,
+        },
+    ],
+    clauses: &[(Cond::Eq(Term::X(2), Term::X(1)), 2, "bc")],
+    scans: &[],
+    spine: &[
+        ("b", "c", &[Cond::Eq(Term::X(2), Term::X(1))]),
+        ("a", "bc", &[]),
+    ],
+    joinable: &["a", "b", "c", "bc", "abc"],
+    steps: &[("a", "bc", 2), ("b", "c", 1)],
+    whole: true,
+};
+
+/// From(a Inner b ON a.x = b.x; b.x = a.x)
+#[test]
+fn tree_33(rt: HostRuntime) -> Result<(), Fail> {
+    check(&rt, rt.alloc(), &TREE_33)
+}
+
+const TREE_33: Facts = Facts {
+    tree: &[
+        Op::Leaf(0),
+        Op::Leaf(1),
+        Op::Join(JoinKind::Inner, &[Cond::Eq(Term::X(0), Term::X(1))]),
+        Op::From(&[Cond::Eq(Term::X(1), Term::X(0))]),
+    ],
+    conds: &[],
+    place: "",
+    items: "ab",
+    joins: &[],
+    clauses: &[
+        (Cond::Eq(Term::X(0), Term::X(1)), 0, "ab"),
+        (Cond::Eq(Term::X(1), Term::X(0)), 0, "ab"),
+    ],
+    scans: &[],
+    spine: &[(
+        "a",
+        "b",
+        &[
+            Cond::Eq(Term::X(0), Term::X(1)),
+            Cond::Eq(Term::X(1), Term::X(0)),
+        ],
+    )],
+    joinable: &["a", "b", "ab"],
+    steps: &[("a", "b", 0), ("b", "a", 0)],
+    whole: true,
+};
+
+/// Two left joins, either of which may come first: (a Left b ON a.x = b.y) Left c ON b.x = c.y
+#[test]
+fn two_left_joins(rt: HostRuntime) -> Result<(), Fail> {
+    check(&rt, rt.alloc(), &TWO_LEFT_JOINS)
+}
+
+const TWO_LEFT_JOINS: Facts = Facts {
+    tree: &[
+        Op::Leaf(0),
+        Op::Leaf(1),
+        Op::Join(JoinKind::Left, &[Cond::Eq(Term::X(0), Term::Y(1))]),
+        Op::Leaf(2),
+        Op::Join(JoinKind::Left, &[Cond::Eq(Term::X(1), Term::Y(2))]),
+    ],
+    conds: &[],
+    place: "",
+    items: "abc",
+    joins: &[
+        Known {
+            kind: JoinKind::Left,
+            sides: ("a", "b"),
+            sets: ("a", "b"),
+            region: 0,
+            members: 1,
+        },
+        Known {
+            kind: JoinKind::Left,
+            sides: ("ab", "c"),
+            sets: ("b", "c"),
+            region: 0,
+            members: 1,
+        },
+    ],
+    clauses: &[],
+    scans: &[],
+    spine: &[("a", "b", &[]), ("ab", "c", &[])],
+    joinable: &["a", "b", "c", "ab", "bc", "abc"],
+    steps: &[("a", "b", 1), ("a", "bc", 1), ("b", "c", 2), ("ab", "c", 2)],
+    whole: true,
+};
+
+/// A condition that rejects no null: (a Left b ON a.x = b.y) Left c ON COALESCE(b.x, 0) = c.y
+#[test]
+fn rejects_no_null(rt: HostRuntime) -> Result<(), Fail> {
+    check(&rt, rt.alloc(), &REJECTS_NO_NULL)
+}
+
+const REJECTS_NO_NULL: Facts = Facts {
+    tree: &[
+        Op::Leaf(0),
+        Op::Leaf(1),
+        Op::Join(JoinKind::Left, &[Cond::Eq(Term::X(0), Term::Y(1))]),
+        Op::Leaf(2),
+        Op::Join(JoinKind::Left, &[Cond::Eq(Term::XOrZero(1), Term::Y(2))]),
+    ],
+    conds: &[],
+    place: "",
+    items: "abc",
+    joins: &[
+        Known {
+            kind: JoinKind::Left,
+            sides: ("a", "b"),
+            sets: ("a", "b"),
+            region: 0,
+            members: 1,
+        },
+        Known {
+            kind: JoinKind::Left,
+            sides: ("ab", "c"),
+            sets: ("ab", "c"),
+            region: 0,
+            members: 1,
+        },
+    ],
+    clauses: &[],
+    scans: &[],
+    spine: &[("a", "b", &[]), ("ab", "c", &[])],
+    joinable: &["a", "b", "c", "ab", "abc"],
+    steps: &[("a", "b", 1), ("ab", "c", 2)],
+    whole: true,
+};
+
+/// A condition inside the right side: a Left From(b Left c ON b.x = c.y; c.x IS NULL) ON a.x = b.y
+#[test]
+fn condition_inside(rt: HostRuntime) -> Result<(), Fail> {
+    check(&rt, rt.alloc(), &CONDITION_INSIDE)
+}
+
+const CONDITION_INSIDE: Facts = Facts {
+    tree: &[
+        Op::Leaf(0),
+        Op::Leaf(1),
+        Op::Leaf(2),
+        Op::Join(JoinKind::Left, &[Cond::Eq(Term::X(1), Term::Y(2))]),
+        Op::From(&[Cond::IsNull(Term::X(2))]),
+        Op::Join(JoinKind::Left, &[Cond::Eq(Term::X(0), Term::Y(1))]),
+    ],
+    conds: &[],
+    place: "",
+    items: "abc",
+    joins: &[
+        Known {
+            kind: JoinKind::Left,
+            sides: ("b", "c"),
+            sets: ("b", "c"),
+            region: 2,
+            members: 1,
+        },
+        Known {
+            kind: JoinKind::Left,
+            sides: ("a", "bc"),
+            sets: ("a", "bc"),
+            region: 0,
+            members: 1,
+        },
+    ],
+    clauses: &[(Cond::IsNull(Term::X(2)), 2, "bc")],
+    scans: &[],
+    spine: &[("b", "c", &[Cond::IsNull(Term::X(2))]), ("a", "bc", &[])],
+    joinable: &["a", "b", "c", "bc", "abc"],
+    steps: &[("a", "bc", 2), ("b", "c", 1)],
     whole: true,
 };
