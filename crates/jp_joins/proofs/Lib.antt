@@ -1,0 +1,16 @@
+pub mod FrameFacts
+pub mod HoldsFacts
+pub mod JoinFacts
+pub mod KeyFacts
+pub mod LendingFacts
+pub mod LookFacts
+pub mod MergeFacts
+pub mod NumberLaws
+pub mod PairFacts
+pub mod PlaceFacts
+pub mod PlainFacts
+pub mod RightFacts
+pub mod SameRows
+pub mod SortedFacts
+pub mod StepFacts
+pub mod WalkFacts

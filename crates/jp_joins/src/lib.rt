@@ -1,0 +1,23 @@
+//! The methods of a join step over tuples of row numbers in an arena.
+#![tactic(auto)]
+
+mod at;
+mod hashing;
+mod keys;
+mod laws;
+mod lending;
+mod merging;
+mod nesting;
+mod numbers;
+mod right_hashing;
+mod sorting;
+mod table;
+mod tuples;
+mod work;
+
+pub use hashing::hash;
+pub use laws::lists_are_those_of_frames;
+pub use merging::merge;
+pub use nesting::nest;
+pub use right_hashing::hash_right;
+pub use tuples::{Tuple, TupleEnv};
