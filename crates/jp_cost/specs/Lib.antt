@@ -4,3 +4,4 @@ pub mod Estimates
 pub mod Items
 pub mod Rounds
 pub mod Steps
+pub mod TreeCosts

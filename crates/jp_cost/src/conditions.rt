@@ -1,16 +1,14 @@
 #![tactic(auto, using(crate::proofs::PickLaws::open_regions))]
 
 ghost use Rattle.std.specs.Prelude.{◌≡◌, ◌&&◌, ◌∷◌, filter, find, fold, map, List};
-ghost use Rattle.std.specs.Option.{option_copied};
-ghost use Rattle.jp_problem.specs.Problems.{join_of};
-ghost use Rattle.jp_problem.specs.StepClauses.{is_open, is_open_class, is_done};
+ghost use Rattle.jp_problem.specs.StepClauses.{is_open, is_open_class};
 ghost use Rattle.jp_cost.specs.Estimates.{counted_expr, counted_in_class, counts_alone, divided_by_all, filtered_by, is_available, is_picked, picks, with_first};
 ghost use Rattle.jp_cost.specs.Steps.{by_class, by_clause, by_member, from_first, is_meant};
 
 use crate::values::{divided, divisor, values_of};
-use jp_base::{JoinNo, RelSet};
+use jp_base::RelSet;
 use jp_problem::sets::{both, is_within, meets, nothing};
-use jp_problem::{Class, Clause, Problem, Special};
+use jp_problem::{Class, Clause, Problem, is_open};
 use jp_query::Expr;
 
 /// Which of the conditions that count in a set are meant, by the items that they need.
@@ -73,38 +71,6 @@ fn is_meant(problem: &Problem, set: RelSet, pick: &Pick, clause: &Clause) -> boo
         && is_within(clause.req, set)
         && is_open(problem.joins.as_slice(), set, clause.region)
         && pick.picks(clause.req)
-}
-
-/// Whether the region isn't done in the set; region 0 never is.
-fn is_open(joins: &[Special], set: RelSet, region: JoinNo) -> bool
-    ensures { result ≡ is_open joins.now set region }
-{
-    if region == 0 {
-        return true;
-    }
-    match join_of(joins, region) {
-        Some(join) => !is_done(set, join),
-        None => true,
-    }
-}
-
-/// The join of this number.
-fn join_of(joins: &[Special], number: JoinNo) -> Option<&Special>
-    ensures { option_copied result ≡ join_of joins.now number }
-{
-    'joins: for join in joins {
-        if join.no == number {
-            return Some(join);
-        }
-    }
-    None
-}
-
-/// Whether all that the join needs lies in the set.
-pub fn is_done(set: RelSet, join: &Special) -> bool
-    ensures { result ≡ is_done set join.now }
-{
-    is_within(join.min_left, set) && is_within(join.min_right, set)
 }
 
 fn after_classes(problem: &Problem, set: RelSet, pick: &Pick, rows: u64) -> u64

@@ -10,11 +10,11 @@ ghost use Rattle.jp_cost.specs.Estimates.{at_most, core as core_of, core_rows, d
 ghost use Rattle.jp_cost.specs.declared.conditions.Pick.TheVariants.{Ending};
 ghost use Rattle.jp_cost.specs.Rounds.{after_outer, is_around, is_outer, with_right};
 
-use crate::conditions::{Pick, filtered, is_done};
+use crate::conditions::{Pick, filtered};
 use crate::values::{divided, divisor};
 use jp_base::RelSet;
 use jp_problem::sets::{both, is_within, meets, nothing};
-use jp_problem::{Item, Problem, Special};
+use jp_problem::{Item, Problem, Special, is_done};
 use jp_query::{Expr, JoinKind};
 
 /// How many rows the items of a set are estimated to have together. It depends on the set alone, whatever tree makes it.

@@ -15,7 +15,7 @@ use Rattle.jp_problem.specs.Trees.{Tree, Scan, Join, set_of, IsLegalTree}
 use Rattle.jp_cost.specs.Costs.{cost}
 use Rattle.jp_cost.specs.Estimates.{estimate}
 use Rattle.jp_cost.proofs.RangeLaws.{rounds_range}
-use Rattle.jp_search.specs.TreeCosts.{scan_cost, tree_cost}
+use Rattle.jp_cost.specs.TreeCosts.{scan_cost, tree_cost}
 use Rattle.jp_search.specs.TreeOrder.{OnlyNests}
 
 -- the weight of the items of a set, of the items from `first` on

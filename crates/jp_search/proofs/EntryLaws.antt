@@ -20,7 +20,7 @@ use Rattle.jp_search.specs.Joins.{facts_of}
 use Rattle.jp_search.specs.Ready.{IsReady, IsTold}
 use Rattle.jp_search.specs.Splits.{IsLeastAbove, scanned}
 use Rattle.jp_search.specs.Tables.{entry_at}
-use Rattle.jp_search.specs.TreeCosts.{tree_cost}
+use Rattle.jp_cost.specs.TreeCosts.{tree_cost}
 use Rattle.jp_search.specs.TreeOrder.{ComesBefore, IsFirst, OnlyNests}
 use Rattle.jp_search.proofs.CostLaws.{tree_most, rows_most}
 use Rattle.jp_search.proofs.FirstLaws.{no_tree, first_tree}

@@ -20,7 +20,7 @@ use Rattle.jp_search.specs.declared.table.Found.{Found}
 use Rattle.jp_search.specs.Entries.{IsEntry, Knows}
 use Rattle.jp_search.specs.Splits.{IsPartAbove, IsLeastAbove, at_part, stepped}
 use Rattle.jp_search.specs.Tables.{entry_at}
-use Rattle.jp_search.specs.TreeCosts.{tree_cost}
+use Rattle.jp_cost.specs.TreeCosts.{tree_cost}
 use Rattle.std.proofs.lemmas.Bool.{cases_lt}
 use Rattle.jp_search.specs.TreeOrder.{ComesBefore, Then, IsFirst, OnlyNests}
 use Rattle.jp_search.proofs.PartLaws.{part_and_rest, rest_is, part_below, other_below, positive, rest_below}

@@ -12,7 +12,7 @@ use Rattle.jp_problem.specs.LegalTests.{step_of}
 use Rattle.jp_problem.specs.Sets.{without}
 use Rattle.jp_problem.specs.Trees.{Tree, Scan, Join, set_of, IsLegalTree}
 use Rattle.jp_problem.proofs.LegalLaws.{step_says}
-use Rattle.jp_search.specs.TreeCosts.{tree_cost}
+use Rattle.jp_cost.specs.TreeCosts.{tree_cost}
 use Rattle.jp_search.specs.TreeOrder.{ComesBefore, Then, rank}
 use Rattle.jp_search.proofs.FirstLaws.{at_most, by_cost}
 use Rattle.jp_search.proofs.NumberLaws.{of_one}

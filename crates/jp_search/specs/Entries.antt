@@ -8,7 +8,7 @@ use Rattle.jp_tree.specs.Pools.{IsTreeOf}
 use Rattle.jp_search.specs.declared.table.Found.{Found}
 use Rattle.jp_search.specs.Joins.{facts_of}
 use Rattle.jp_search.specs.Tables.{entry_at}
-use Rattle.jp_search.specs.TreeCosts.{tree_cost}
+use Rattle.jp_cost.specs.TreeCosts.{tree_cost}
 use Rattle.jp_search.specs.TreeOrder.{IsFirst, OnlyNests}
 
 -- nothing where the set has no legal tree, else its first one with its cost, the set's estimate, and what it says of the joins

@@ -4,5 +4,4 @@ pub mod Joins
 pub mod Ready
 pub mod Splits
 pub mod Tables
-pub mod TreeCosts
 pub mod TreeOrder

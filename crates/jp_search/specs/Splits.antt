@@ -11,7 +11,7 @@ use Rattle.jp_tree.specs.declared.pool.PlanNode.TheVariants.{Scan, Join}
 use Rattle.jp_search.specs.declared.table.Choice.{Choice}
 use Rattle.jp_search.specs.declared.table.Found.{Found}
 use Rattle.jp_search.specs.Tables.{entry_at}
-use Rattle.jp_search.specs.TreeCosts.{scan_cost}
+use Rattle.jp_cost.specs.TreeCosts.{scan_cost}
 use Rattle.jp_search.specs.TreeOrder.{Then}
 
 -- the scan of an item

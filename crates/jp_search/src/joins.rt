@@ -11,7 +11,7 @@ ghost use Rattle.jp_search.specs.Joins.{facts_of, places_of, by_join};
 
 use jp_base::RelSet;
 use jp_problem::sets::is_within;
-use jp_problem::{Problem, Special, Step};
+use jp_problem::{Problem, Special, Step, is_done};
 
 /// What a set says of the special joins: whether it can be joined by itself, how many joins are done in it, and the sum of
 /// their places.
@@ -61,13 +61,6 @@ fn place_if_done(set: RelSet, join: &Special, place: usize) -> u128
     ensures place_fits { place < 2 ^ 64 }
 {
     if is_done(set, join) { place as u128 } else { 0 }
-}
-
-/// Whether all that the join needs lies in the set.
-fn is_done(set: RelSet, join: &Special) -> bool
-    ensures { result ≡ is_done set join.now }
-{
-    is_within(join.min_left, set) && is_within(join.min_right, set)
 }
 
 /// The kind of the step of two disjoint sets, by what they and their union, which is joinable, say of the joins; none where
