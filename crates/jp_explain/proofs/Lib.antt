@@ -1,0 +1,7 @@
+pub mod BlockLaws
+pub mod CostLaws
+pub mod LineLaws
+pub mod NameLaws
+pub mod PlanLaws
+pub mod SublinkLaws
+pub mod TextLaws

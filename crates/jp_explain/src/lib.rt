@@ -1,0 +1,17 @@
+//! A planned statement as text.
+#![tactic(auto)]
+
+mod expressions;
+mod laws;
+mod lines;
+mod names;
+mod nodes;
+mod pieces;
+mod plans;
+mod statements;
+mod values;
+mod weights;
+
+pub use laws::plans_are_printed;
+pub use statements::explain_text;
+pub use weights::{Weight, weight_of};
