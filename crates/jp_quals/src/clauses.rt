@@ -10,7 +10,8 @@ use jp_special::span;
 use sqlite_items::Items;
 use std::alloc::Global;
 
-/// The conditions of a block as clauses, in the same order.
+/// The conditions of a block as clauses, in the same order, each with the items that it needs where these joins are the
+/// block's; `distribute` makes its clauses by it. The only error is want of memory.
 pub fn clauses_of(
     alloc: Global,
     rels: &[RelSet],

@@ -7,4 +7,5 @@ mod problem;
 #[cfg(test)]
 mod tests;
 
+pub use clauses::clauses_of;
 pub use problem::distribute;

@@ -1,1 +1,16 @@
+pub mod BlockLaws
+pub mod CountLaws
+pub mod ItemLaws
+pub mod NameLaws
+pub mod NextLaws
+pub mod OuterLevels
+pub mod PartLaws
+pub mod Places
+pub mod PlanLaws
+pub mod PreparedLaws
+pub mod PriceLaws
+pub mod SourceLaws
+pub mod SublinkChain
+pub mod VisitLaws
+pub mod WeightLaws
 pub mod WriterLemmas

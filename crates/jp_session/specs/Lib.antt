@@ -1,2 +1,11 @@
+pub mod Blocks
+pub mod Costs
+pub mod Found
+pub mod Items
+pub mod Names
 pub mod Output
+pub mod Parts
+pub mod Turned
+pub mod Visits
+pub mod Weights
 pub mod Writers

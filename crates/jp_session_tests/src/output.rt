@@ -1,6 +1,6 @@
-use crate::output_text;
 use jp_base::{Row, Txt, Ty, Value};
 use jp_query::{Expr, Output};
+use jp_session::output_text;
 use sqlite_items::Items;
 use std::alloc::Global;
 use std::test::Fail;

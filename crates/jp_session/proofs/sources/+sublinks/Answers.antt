@@ -1,0 +1,30 @@
+use Rattle.std.proofs.Common.{◌≡◌, ◌++◌, ap, append-nil}
+use Rattle.std.specs.List.{flat_map}
+use Rattle.jp_session.specs.Parts.{arm_parts_of, option_parts}
+use Rattle.jp_session.proofs.PartLaws.{case_pushed}
+use Rattle.jp_session.proofs.sources.+sublinks.Goals as goal
+use Rattle.jp_session.proofs.sources.+sublinks.Goals.{push_expr-in-Some+in_ok-push_expr-in-Some, push_expr-in-None}
+
+pub push_expr-returns-in_ok-push_expr-in-Some-otherwise : goal.push_expr-returns-in_ok-push_expr-in-Some-otherwise
+push_expr-returns-in_ok-push_expr-in-Some-otherwise t c =
+    let old = c.args.parts.now.items in
+    let first : c.match-operand.parts.items ≡ old ++ option_parts c.in-Case.operand = elim c.match-operand.branch [
+      | push_expr-in-Some+in_ok-push_expr-in-Some w ↦ (let e = ap option_parts w.in-Some.is in let f = w.in_ok-push_expr-in-Some.ensures in cc)
+      | push_expr-in-None w ↦ (let e = ap option_parts w.in-None.is in let n = append-nil old in cc)
+    ] in
+    let second : c.push_arms.new.parts.items ≡ c.match-operand.parts.items ++ flat_map arm_parts_of c.in-Case.arms = let f = c.in_ok-push_arms-in-Case.ensures in cc in
+    let last : c.push_expr-in-Some-otherwise.new.parts.items ≡ c.push_arms.new.parts.items ++ option_parts c.in-Case.otherwise = let e = ap option_parts c.in-Some-otherwise.is in let f = c.in_ok-push_expr-in-Some-otherwise.ensures in cc in
+    let all = case_pushed c.in-Case.operand c.in-Case.arms c.in-Case.otherwise old _ _ _ first second last in
+    cc
+
+pub push_expr-returns-in-None-otherwise : goal.push_expr-returns-in-None-otherwise
+push_expr-returns-in-None-otherwise t c =
+    let old = c.args.parts.now.items in
+    let first : c.match-operand.parts.items ≡ old ++ option_parts c.in-Case.operand = elim c.match-operand.branch [
+      | push_expr-in-Some+in_ok-push_expr-in-Some w ↦ (let e = ap option_parts w.in-Some.is in let f = w.in_ok-push_expr-in-Some.ensures in cc)
+      | push_expr-in-None w ↦ (let e = ap option_parts w.in-None.is in let n = append-nil old in cc)
+    ] in
+    let second : c.push_arms.new.parts.items ≡ c.match-operand.parts.items ++ flat_map arm_parts_of c.in-Case.arms = let f = c.in_ok-push_arms-in-Case.ensures in cc in
+    let last : c.push_arms.new.parts.items ≡ c.push_arms.new.parts.items ++ option_parts c.in-Case.otherwise = let e = ap option_parts c.in-None-otherwise.is in let n = append-nil c.push_arms.new.parts.items in cc in
+    let all = case_pushed c.in-Case.operand c.in-Case.arms c.in-Case.otherwise old _ _ _ first second last in
+    cc
