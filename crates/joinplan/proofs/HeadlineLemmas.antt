@@ -13,7 +13,7 @@ use Rattle.jp_query.specs.Meaning.{no_outer_rows, meaning}
 use Rattle.jp_query.specs.Mentions.{tables_mentioned}
 use Rattle.jp_laws.proofs.OrderedRows.{rows_in_order}
 use Rattle.jp_lex.specs.Answer as cutting
-use Rattle.jp_lex.specs.Cutting.{Bytes, Refused, Tokens}
+use Rattle.jp_lex.specs.Cutting.{Refused, Tokens}
 use Rattle.jp_query.specs.declared.Query.{Query}
 use Rattle.jp_query.specs.Parts.{tables_in}
 use Rattle.jp_table.specs.Loading.{table_of}
@@ -21,10 +21,10 @@ use Rattle.jp_resolution.specs.Resolving.{resolved}
 use Rattle.joinplan.specs.declared.refusal.Refusal.{Refusal}
 use Rattle.joinplan.specs.declared.refusal.Refusal.TheVariants as refusal
 use Rattle.joinplan.specs.Refusals.{resolve_refusal}
-use Rattle.joinplan.specs.Answers.{NamedTable, Rows, answer_in, answer_of, catalogue_in, check_in, count_line, counts_in, file_limit, none_loaded, output_in, query_in, query_of, read_into, run_in, selected_in, source_in, statement_in, statement_limit, table_in, tables_read, text_in, with_count, with_table}
-use Rattle.joinplan.specs.Headline.{AreCounted, HasCatalogue, HasPlace, HasRows, HasTables, IsAnswerTo, IsCount, IsHeld, IsInItsOrder, IsOrderedAnswer, PrintsAnswer, PrintsInOrder}
-use Rattle.joinplan.specs.Readings.{AgreesTold, Held, Reading, after, content_of, fold_in}
-use Rattle.joinplan.specs.Words.{Command, Run, Check, command_of}
+use Rattle.joinplan.specs.Answers.{NamedTable, Rows, Output, Bytes, PlanOf, HasBytes, PrintsTold, answer_in, answer_of, bytes_or_refuse, explain_in, plan_in, planned_in, catalogue_in, check_in, count_line, counts_in, file_limit, none_loaded, output_in, query_in, query_of, read_into, run_in, selected_in, source_in, statement_in, statement_limit, table_in, tables_read, text_in, with_count, with_table}
+use Rattle.joinplan.specs.Headline.{AreCounted, HasCatalogue, HasPlace, HasRows, HasTables, IsAnswerTo, IsCount, IsHeld, IsInItsOrder, IsOrderedAnswer, IsPlanText, PrintsAnswer, PrintsInOrder}
+use Rattle.joinplan.specs.Readings.{Held, Reading, after, content_of, fold_in}
+use Rattle.joinplan.specs.Words.{Command, Run, Explain, Check, command_of}
 use Rattle.joinplan.proofs.StatementLemmas.{found, statement_found}
 use Rattle.joinplan.proofs.TableLemmas.{all_of_each, only_one, set_loaded, still_loaded}
 
@@ -142,7 +142,7 @@ module _ (held : Held) (catalog : Catalog) where
       let done = all_after (tables_mentioned query) (none_loaded catalog) tables none_good e in
       record { places = done.good.places; named = All-weaker (IsLoaded tables) (HasPlace held catalog tables) (placed tables done.good) (tables_in query) (all_of_each (IsLoaded tables) (tables_in query) done.loaded) }
 
-module _ (law : (src : Bytes) → MatchResult (cutting.answer src) (Tokens src) (Refused src)) where
+module _ (law : (src : List ℕ) → MatchResult (cutting.answer src) (Tokens src) (Refused src)) where
   run_answer : (held : Held) (catalogue statement bytes : List ℕ) → (run_in catalogue statement held).answer ≡ Ok bytes → IsInItsOrder held catalogue statement bytes
   run_answer held catalogue statement bytes e =
       let (catalog, catalog_read, rest) = came_of (catalogue_in held catalogue).names (catalogue_in held catalogue).answer (query_in held statement) bytes e in
@@ -169,6 +169,30 @@ module _ (law : (src : Bytes) → MatchResult (cutting.answer src) (Tokens src) 
         in_order = rows_in_order (rows_of_tables tables) query no_outer_rows;
       }
 
+  -- ---- `explain`
+
+  explain_answer : (held : Held) (catalogue statement bytes : List ℕ) (output : Output) → (explain_in catalogue statement held).answer ≡ Ok output → HasBytes output bytes → IsPlanText held catalogue statement bytes
+  explain_answer held catalogue statement bytes output e has =
+      let (catalog, catalog_read, rest) = came_of (catalogue_in held catalogue).names (catalogue_in held catalogue).answer (plan_in held statement) output e in
+      let (stmt, stmt_read, planned) = came_of (statement_in held statement).names (statement_in held statement).answer (planned_in catalog) output rest in
+      let (source, source_read, stmt_known) = came_of (source_in held statement).names (source_in held statement).answer _ stmt stmt_read in
+      let (query, query_known, known) = came_of [] (query_of catalog stmt) _ output planned in
+      let is : PlanOf catalog query ≡ output = cc in
+      let (prepared, is_prepared, printed) = subst (λ o. HasBytes o bytes) (sym is) has in
+      record {
+        catalog = catalog;
+        catalogue_is = has_catalogue held catalogue catalog catalog_read;
+        source = source;
+        source_held = content_held held statement statement_limit _ (held statement) source refl source_read;
+        stmt = stmt;
+        statement_is = statement_found law source stmt stmt_known;
+        query = query;
+        query_is = found resolve_refusal (resolved catalog stmt) query query_known;
+        prepared = prepared;
+        is_prepared = is_prepared;
+        printed = printed;
+      }
+
 -- ---- `check`
 
 counts_after : (held : Held) (tables : List NamedTable) (before bytes : List ℕ) → (fold_in (with_count held) before tables).answer ≡ Ok bytes → (more : List ℕ) × AreCounted held tables more × (bytes ≡ before ++ more)
@@ -189,21 +213,30 @@ check_answer held catalogue bytes e =
     let (more, counted, all) = counts_after held catalog.tables [] bytes rest in
     record { catalog = catalog; catalogue_is = has_catalogue held catalogue catalog catalog_read; counted = subst (AreCounted held catalog.tables) (sym all) counted }
 
-module _ (law : (src : Bytes) → MatchResult (cutting.answer src) (Tokens src) (Refused src)) where
-  words_answer : (held : Held) (command : Option Command) (bytes : List ℕ) → (answer_in command held).answer ≡ Ok bytes → IsAnswerTo held command bytes
-  words_answer held None bytes e = cc
-  words_answer held (Some (Run catalogue statement)) bytes e = (run_answer law held catalogue statement bytes e).meant
-  words_answer held (Some (Check catalogue)) bytes e = check_answer held catalogue bytes e
+-- bytes that are told are those of the reading
+bytes_read : (answer : Result (List ℕ) Refusal) (output : Output) (bytes : List ℕ) → bytes_or_refuse answer ≡ Ok output → HasBytes output bytes → answer ≡ Ok bytes
+bytes_read (Err r) output bytes e has = cc
+bytes_read (Ok text) output bytes e has =
+    let is : Bytes text ≡ output = cc in
+    ap Ok (sym (subst (λ o. HasBytes o bytes) (sym is) has))
 
-  words_ordered : (held : Held) (command : Option Command) (bytes : List ℕ) → (answer_in command held).answer ≡ Ok bytes → IsOrderedAnswer held command bytes
-  words_ordered held None bytes e = cc
-  words_ordered held (Some (Run catalogue statement)) bytes e = run_answer law held catalogue statement bytes e
-  words_ordered held (Some (Check catalogue)) bytes e = tt
+module _ (law : (src : List ℕ) → MatchResult (cutting.answer src) (Tokens src) (Refused src)) where
+  words_answer : (held : Held) (command : Option Command) (bytes : List ℕ) (output : Output) → (answer_in command held).answer ≡ Ok output → HasBytes output bytes → IsAnswerTo held command bytes
+  words_answer held None bytes output e has = cc
+  words_answer held (Some (Run catalogue statement)) bytes output e has = (run_answer law held catalogue statement bytes (bytes_read _ output bytes e has)).meant
+  words_answer held (Some (Explain catalogue statement)) bytes output e has = explain_answer law held catalogue statement bytes output e has
+  words_answer held (Some (Check catalogue)) bytes output e has = check_answer held catalogue bytes (bytes_read _ output bytes e has)
 
-  pub prints_answer : (words : List (List ℕ)) (contents : Option Held) (before now : Option (List ℕ)) (v : Vec ℕ Global) → AgreesTold (λ (w : Vec ℕ Global). w.items) (Ok v) contents (answer_of words) → TookMore before v.items now → PrintsAnswer contents words before now
+  words_ordered : (held : Held) (command : Option Command) (bytes : List ℕ) (output : Output) → (answer_in command held).answer ≡ Ok output → HasBytes output bytes → IsOrderedAnswer held command bytes
+  words_ordered held None bytes output e has = cc
+  words_ordered held (Some (Run catalogue statement)) bytes output e has = run_answer law held catalogue statement bytes (bytes_read _ output bytes e has)
+  words_ordered held (Some (Explain catalogue statement)) bytes output e has = tt
+  words_ordered held (Some (Check catalogue)) bytes output e has = tt
+
+  pub prints_answer : (words : List (List ℕ)) (contents : Option Held) (before now : Option (List ℕ)) (v : Vec ℕ Global) → PrintsTold (Ok v) contents (answer_of words) → TookMore before v.items now → PrintsAnswer contents words before now
   prints_answer words None before now v h took = tt
-  prints_answer words (Some held) before now v h took = record { bytes = v.items; answer = words_answer held (command_of words) v.items h; took = took }
+  prints_answer words (Some held) before now v (output, e, has) took = record { bytes = v.items; answer = words_answer held (command_of words) v.items output e has; took = took }
 
-  pub prints_in_order : (words : List (List ℕ)) (contents : Option Held) (before now : Option (List ℕ)) (v : Vec ℕ Global) → AgreesTold (λ (w : Vec ℕ Global). w.items) (Ok v) contents (answer_of words) → TookMore before v.items now → PrintsInOrder contents words before now
+  pub prints_in_order : (words : List (List ℕ)) (contents : Option Held) (before now : Option (List ℕ)) (v : Vec ℕ Global) → PrintsTold (Ok v) contents (answer_of words) → TookMore before v.items now → PrintsInOrder contents words before now
   prints_in_order words None before now v h took = tt
-  prints_in_order words (Some held) before now v h took = record { bytes = v.items; ordered = words_ordered held (command_of words) v.items h; took = took }
+  prints_in_order words (Some held) before now v (output, e, has) took = record { bytes = v.items; ordered = words_ordered held (command_of words) v.items output e has; took = took }

@@ -9,9 +9,9 @@ use Rattle.jp_query.specs.Tables.{TableRows}
 use Rattle.jp_query.specs.declared.Query.{Query}
 use Rattle.joinplan.specs.declared.refusal.Refusal.{Refusal}
 use Rattle.joinplan.specs.declared.refusal.Refusal.TheVariants as refusal
-use Rattle.joinplan.specs.Answers.{NamedTable, answer_in, answer_of, catalogue_in, check_in, counts_in, file_limit, none_loaded, output_in, query_in, query_of, read_into, run_in, selected_in, source_in, statement_in, statement_limit, table_in, tables_read, text_in, with_count, with_table}
+use Rattle.joinplan.specs.Answers.{NamedTable, Output, as_output, bytes_or_refuse, answer_in, answer_of, explain_in, plan_in, planned_in, catalogue_in, check_in, counts_in, file_limit, none_loaded, output_in, query_in, query_of, read_into, run_in, selected_in, source_in, statement_in, statement_limit, table_in, tables_read, text_in, with_count, with_table}
 use Rattle.joinplan.specs.Readings.{Held, Reading, after, content_of, fold_in}
-use Rattle.joinplan.specs.Words.{Command, Run, Check, command_of}
+use Rattle.joinplan.specs.Words.{Command, Run, Explain, Check, command_of}
 
 module _ (held : Held) where
   abbrev pub IsThere : List ℕ → Type 0
@@ -80,10 +80,24 @@ module _ (held : Held) where
   check_read : (catalogue : List ℕ) → Holds (check_in catalogue held).names (check_in catalogue held).answer
   check_read catalogue = then_read (catalogue_in held catalogue).names (catalogue_in held catalogue).answer (counts_in held) (catalogue_read catalogue) (λ catalog. all_read (with_count held) [] catalog.tables count_read)
 
+  planned_read : (catalog : Catalog) (stmt : Stmt) → Holds (planned_in catalog stmt).names (planned_in catalog stmt).answer
+  planned_read catalog stmt = then_read [] (query_of catalog stmt) _ (none_read (query_of catalog stmt)) (λ query. none_read _)
+
+  plan_read : (name : List ℕ) (catalog : Catalog) → Holds (plan_in held name catalog).names (plan_in held name catalog).answer
+  plan_read name catalog = then_read (statement_in held name).names (statement_in held name).answer (planned_in catalog) (statement_read name) (planned_read catalog)
+
+  explain_read : (catalogue statement : List ℕ) → Holds (explain_in catalogue statement held).names (explain_in catalogue statement held).answer
+  explain_read catalogue statement = then_read (catalogue_in held catalogue).names (catalogue_in held catalogue).answer (plan_in held statement) (catalogue_read catalogue) (plan_read statement)
+
+  as_output_read : (names : List (List ℕ)) (answer : Result (List ℕ) Refusal) → Holds names answer → Holds names (bytes_or_refuse answer)
+  as_output_read names (Ok bytes) read output e name within = read bytes refl name within
+  as_output_read names (Err r) read output e name within = cc
+
   command_read : (o : Option Command) → Holds (answer_in o held).names (answer_in o held).answer
   command_read None = none_read _
-  command_read (Some (Run catalogue statement)) = run_read catalogue statement
-  command_read (Some (Check catalogue)) = check_read catalogue
+  command_read (Some (Run catalogue statement)) = as_output_read _ (run_in catalogue statement held).answer (run_read catalogue statement)
+  command_read (Some (Explain catalogue statement)) = explain_read catalogue statement
+  command_read (Some (Check catalogue)) = as_output_read _ (check_in catalogue held).answer (check_read catalogue)
 
-  pub names_held : (words : List (List ℕ)) (bytes : List ℕ) → (answer_of words held).answer ≡ Ok bytes → (name : List ℕ) → Contains (answer_of words held).names name → IsThere name
-  names_held words bytes e name within = command_read (command_of words) bytes e name (to_in name (answer_of words held).names within)
+  pub names_held : (words : List (List ℕ)) (output : Output) → (answer_of words held).answer ≡ Ok output → (name : List ℕ) → Contains (answer_of words held).names name → IsThere name
+  names_held words output e name within = command_read (command_of words) output e name (to_in name (answer_of words held).names within)

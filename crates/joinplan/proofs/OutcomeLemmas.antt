@@ -6,24 +6,24 @@ use Rattle.jp_io.specs.declared.writing.SinkError.{SinkError}
 use Rattle.jp_io.specs.declared.writing.SinkError.TheVariants.{Failed}
 use Rattle.joinplan.specs.declared.refusal.Refusal.{Refusal}
 use Rattle.joinplan.specs.declared.refusal.Refusal.TheVariants as refusal
-use Rattle.joinplan.specs.Answers.{answer_of}
+use Rattle.joinplan.specs.Answers.{PrintsTold, answer_of}
 use Rattle.joinplan.specs.Faults.{Counts, IsExplained, MayBeRead}
 use Rattle.joinplan.specs.Outcomes.{Answer, IsCause, IsCounted, IsOutput, WrotePart, answer_told}
 use Rattle.joinplan.specs.Words.{Command}
-use Rattle.joinplan.specs.Readings.{AgreesTold, Held}
+use Rattle.joinplan.specs.Readings.{Held}
 use Rattle.joinplan.specs.Refusals.{IsSaid}
 use Rattle.joinplan.proofs.LineLemmas.{failed}
 
 abbrev refused : Refusal → Result (Vec ℕ Global) Refusal
 refused r = Err r
 
-pub output_told : (words : List (List ℕ)) (contents : Option Held) (v : Vec ℕ Global) → AgreesTold (λ (w : Vec ℕ Global). w.items) (Ok v) contents (answer_of words) → IsOutput (answer_told words contents) v.items
+pub output_told : (words : List (List ℕ)) (contents : Option Held) (v : Vec ℕ Global) → PrintsTold (Ok v) contents (answer_of words) → IsOutput (answer_told words contents) v.items
 output_told words None v h = tt
 output_told words (Some held) v h = h
 
 pub write_cause : (told : Option Answer) (bytes : List ℕ) → IsOutput told bytes → IfSome told (λ answer. IsCause answer refusal.WriteFault)
 write_cause None bytes h = tt
-write_cause (Some answer) bytes h = (bytes, h)
+write_cause (Some answer) bytes (output, e, has) = (output, e)
 
 pub wrote_part : (told : Option Answer) (before now : Option (List ℕ)) (bytes : List ℕ) (e : SinkError) → IsOutput told bytes →
     ((n : ℕ) → failed e ≡ Err (Failed n) → (n < length bytes) × TookMore before (take n bytes) now) → WrotePart told before now
@@ -69,7 +69,7 @@ pub no_write : (command : Option Command) (before now : Counts) (r : Refusal) �
 no_write (Some command) before now r explained usage = λ e. subst (IsExplained (MayBeRead (Some command)) before now) e (explained (λ none. cc))
 no_write None before now r explained usage = λ e. let is : r ≡ refusal.Usage = let u = usage refl in cc in cc
 
-pub refusal_told : (words : List (List ℕ)) (contents : Option Held) (r : Refusal) → AgreesTold (λ (w : Vec ℕ Global). w.items) (Err r) contents (answer_of words) → r ≢ refusal.WriteFault → IfSome (answer_told words contents) (λ answer. IsCause answer r)
+pub refusal_told : (words : List (List ℕ)) (contents : Option Held) (r : Refusal) → PrintsTold (Err r) contents (answer_of words) → r ≢ refusal.WriteFault → IfSome (answer_told words contents) (λ answer. IsCause answer r)
 refusal_told words None r h other = tt
 refusal_told words (Some held) refusal.WriteFault h other = absurd (other refl)
 refusal_told words (Some held) (refusal.ReadFault name) h other = h

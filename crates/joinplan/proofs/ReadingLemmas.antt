@@ -13,6 +13,9 @@ use Rattle.jp_table.specs.declared.error.TableError.TheVariants as table_error
 use Rattle.joinplan.specs.declared.refusal.Refusal.{Refusal}
 use Rattle.joinplan.specs.declared.refusal.Refusal.TheVariants as refusal
 use Rattle.joinplan.specs.Faults.{Counts, IsExplained}
+use Rattle.jp_catalog.specs.declared.types.Catalog.{Catalog}
+use Rattle.jp_query.specs.declared.Query.{Query}
+use Rattle.joinplan.specs.Answers.{Output, Bytes, PlanOf, HasBytes, Prints, PrintsTold, as_output, bytes_or_refuse}
 use Rattle.joinplan.specs.Readings.{Held, Reading, known, after, and_then, content_of, file_of, fold_in, Agrees, AgreesRefused, AgreesTold}
 use Rattle.joinplan.specs.Refusals.{IsNamed}
 
@@ -236,3 +239,54 @@ told_on {Y} view other contents reading result r e h = subst (λ x. AgreesTold {
 
 pub explained_on : {Y : Type 0} (May May' : List ℕ → Type 0) (before between now : Counts) (result : Result Y Refusal) (r : Refusal) → result ≡ Err r → ((name : List ℕ) → May name → May' name) → ((name : List ℕ) → before name ≤ between name) → IsExplained May between now r → IfErr result (IsExplained May' before now)
 explained_on May May' before between now result r e more kept h = subst (λ x. IfErr x (IsExplained May' before now)) (sym e) (explained_more May May' before between now more kept r h)
+
+-- ---- what is printed
+
+-- bytes of a reading are those of its output
+bytes_as_output : (answer : Result (List ℕ) Refusal) (v : Vec ℕ Global) → answer ≡ Ok v.items → (output : Output) × (bytes_or_refuse answer ≡ Ok output) × HasBytes output v.items
+bytes_as_output answer v e = (Bytes v.items, ap bytes_or_refuse e, refl)
+
+refused_as_output : (reading : Reading (List ℕ)) (r : Refusal) → AgreesRefused r reading → AgreesRefused r (as_output reading)
+refused_as_output reading refusal.Memory h = tt
+refused_as_output reading (refusal.ReadFault name) h = h
+refused_as_output reading refusal.Usage h = ap bytes_or_refuse h
+refused_as_output reading (refusal.Catalogue error) h = ap bytes_or_refuse h
+refused_as_output reading (refusal.Data table error) h = ap bytes_or_refuse h
+refused_as_output reading (refusal.Statement what at) h = ap bytes_or_refuse h
+refused_as_output reading (refusal.TooDeep at) h = ap bytes_or_refuse h
+refused_as_output reading (refusal.TooManyTables count) h = ap bytes_or_refuse h
+refused_as_output reading (refusal.FileTooLarge name) h = ap bytes_or_refuse h
+refused_as_output reading refusal.StatementTooLarge h = ap bytes_or_refuse h
+refused_as_output reading refusal.WriteFault h = ap bytes_or_refuse h
+
+pub told_as_output : (contents : Option Held) (reading : Held → Reading (List ℕ)) (result : Result (Vec ℕ Global) Refusal) → AgreesTold (λ (v : Vec ℕ Global). v.items) result contents reading → PrintsTold result contents (λ held. as_output (reading held))
+told_as_output None reading result h = tt
+told_as_output (Some held) reading (Ok v) h = bytes_as_output (reading held).answer v h
+told_as_output (Some held) reading (Err r) h = refused_as_output (reading held) r h
+
+prints_widened : (names : List (List ℕ)) (rest : Reading Output) (result : Result (Vec ℕ Global) Refusal) → Prints result rest → Prints result (record { names = names ++ rest.names; answer = rest.answer })
+prints_widened names rest (Ok v) h = h
+prints_widened names rest (Err r) h = widened names rest r h
+
+prints_then : {A : Type 0} (first : Reading A) (next : A → Reading Output) (value : A) (result : Result (Vec ℕ Global) Refusal) → first.answer ≡ Ok value → Prints result (next value) → Prints result (and_then first next)
+prints_then {A} first next value result e h =
+    let P : Result A Refusal → Type 0 = λ answer. Prints result (after first.names answer next) in
+    subst P (sym e) (prints_widened first.names (next value) result h)
+
+pub printed_then : {A : Type 0} (contents : Option Held) (first : Held → Reading A) (next : Held → A → Reading Output) (value : A) (result : Result (Vec ℕ Global) Refusal)
+    → AgreesTold {X = A} (λ a. a) (Ok value) contents first → PrintsTold result contents (λ held. next held value) → PrintsTold result contents (λ held. and_then (first held) (next held))
+printed_then None first next value result h k = tt
+printed_then (Some held) first next value result h k = prints_then (first held) (next held) value result h k
+
+pub printed_stop : {Y A : Type 0} (view : Y → A) (contents : Option Held) (first : Held → Reading A) (next : Held → A → Reading Output) (r : Refusal)
+    → AgreesTold {X = Y} view (Err r) contents first → PrintsTold (Err r) contents (λ held. and_then (first held) (next held))
+printed_stop view None first next r h = tt
+printed_stop view (Some held) first next r h = agrees_stop (first held) (next held) r h
+
+pub printed_memory : (contents : Option Held) (reading : Held → Reading Output) → PrintsTold (Err refusal.Memory) contents reading
+printed_memory None reading = tt
+printed_memory (Some held) reading = tt
+
+pub printed_plan : (contents : Option Held) (catalog : Catalog) (query : Query) (v : Vec ℕ Global) → HasBytes (PlanOf catalog query) v.items → PrintsTold (Ok v) contents (λ held. known (Ok (PlanOf catalog query)))
+printed_plan None catalog query v h = tt
+printed_plan (Some held) catalog query v h = (PlanOf catalog query, refl, h)

@@ -1,8 +1,9 @@
 -- The answer to the words, where the contents of the files are told: the first refusal, or the output.
 -- The order: words; catalogue, its size, its text; for `run` statement, its size, its tokens, its nesting, its grammar, the
--- count of its entries, its names, and each table in order of first mention; for `check` each table of the catalogue. Of a
--- table: its size, its text.
-use Rattle.std.specs.Prelude.{ℕ, List, [], ◌++◌, length, map, Option, Some, None, Result, Ok, Err, codes, decimal, slice_get, slice_set}
+-- count of its entries, its names, and each table in order of first mention; for `explain` the same without the tables; for
+-- `check` each table of the catalogue. Of a table: its size, its text.
+use Rattle.std.specs.Prelude.{◌≡◌, ℕ, List, [], ◌++◌, length, map, Option, Some, None, Result, Ok, Err, codes, decimal, slice_get, slice_set, Vec}
+use Rattle.std.specs.declared.alloc.Global.{Global}
 use Rattle.jp_base.specs.declared.values.Value.{Value}
 use Rattle.jp_catalog.specs.Reading.{Read, catalogue_of}
 use Rattle.jp_catalog.specs.declared.types.Catalog.{Catalog}
@@ -19,12 +20,15 @@ use Rattle.jp_parse.specs.Verdict as reading
 use Rattle.jp_query.specs.declared.Query.{Query, out-Query}
 use Rattle.jp_table.specs.Loading.{Judged, table_of}
 use Rattle.jp_resolution.specs.Resolving.{resolved}
+use Rattle.jp_tree.specs.declared.prepared.Prepared.{Prepared}
+use Rattle.jp_prepared.specs.Planned.{IsPrepared}
+use Rattle.jp_explain.specs.Plans.{explain_text}
 use Rattle.jp_session.specs.Output.{output_text}
 use Rattle.joinplan.specs.declared.refusal.Refusal.{Refusal}
 use Rattle.joinplan.specs.declared.refusal.Refusal.TheVariants as refusal
 use Rattle.joinplan.specs.Refusals.{lex_refusal, parse_refusal, resolve_refusal}
-use Rattle.joinplan.specs.Readings.{Held, Reading, known, and_then, file_of, fold_in}
-use Rattle.joinplan.specs.Words.{Command, Run, Check, command_of}
+use Rattle.joinplan.specs.Readings.{Held, Reading, AgreesRefused, known, and_then, file_of, fold_in}
+use Rattle.joinplan.specs.Words.{Command, Run, Explain, Check, command_of}
 
 -- any file but a statement has at most so many bytes
 abbrev pub file_limit : ℕ
@@ -134,15 +138,55 @@ counts_in held catalog = fold_in (with_count held) [] catalog.tables
 abbrev pub check_in : List ℕ → Held → Reading (List ℕ)
 check_in catalogue held = and_then (catalogue_in held catalogue) (counts_in held)
 
+-- ---- `explain`
+
+-- What is printed: these bytes, or the plan of a query, in which the numbers of blocks are free.
+pub data Output : Type 0 where
+  Bytes : List ℕ → Output
+  PlanOf : Catalog → Query → Output
+
+-- the plan is that of a prepared statement of the query
+abbrev pub HasBytes : Output → List ℕ → Type 0
+HasBytes (Bytes text) bytes = bytes ≡ text
+HasBytes (PlanOf catalog query) bytes = (prepared : Prepared) × IsPrepared catalog query prepared × (bytes ≡ explain_text prepared)
+
+abbrev pub planned_in : Catalog → Stmt → Reading Output
+planned_in catalog stmt = and_then (resolved_in catalog stmt) (λ query. known (Ok (PlanOf catalog query)))
+
+abbrev pub plan_in : Held → List ℕ → Catalog → Reading Output
+plan_in held name catalog = and_then (statement_in held name) (planned_in catalog)
+
+abbrev pub explain_in : List ℕ → List ℕ → Held → Reading Output
+explain_in catalogue statement held = and_then (catalogue_in held catalogue) (plan_in held statement)
+
 -- ---- any command
 
-abbrev pub command_in : Command → Held → Reading (List ℕ)
-command_in (Run catalogue statement) held = run_in catalogue statement held
-command_in (Check catalogue) held = check_in catalogue held
+abbrev pub bytes_or_refuse : Result (List ℕ) Refusal → Result Output Refusal
+bytes_or_refuse (Ok bytes) = Ok (Bytes bytes)
+bytes_or_refuse (Err refusal) = Err refusal
 
-abbrev pub answer_in : Option Command → Held → Reading (List ℕ)
+abbrev pub as_output : Reading (List ℕ) → Reading Output
+as_output reading = record { names = reading.names; answer = bytes_or_refuse reading.answer }
+
+abbrev pub command_in : Command → Held → Reading Output
+command_in (Run catalogue statement) held = as_output (run_in catalogue statement held)
+command_in (Explain catalogue statement) held = explain_in catalogue statement held
+command_in (Check catalogue) held = as_output (check_in catalogue held)
+
+abbrev pub answer_in : Option Command → Held → Reading Output
 answer_in None held = known (Err refusal.Usage)
 answer_in (Some command) held = command_in command held
 
-abbrev pub answer_of : List (List ℕ) → Held → Reading (List ℕ)
+abbrev pub answer_of : List (List ℕ) → Held → Reading Output
 answer_of words held = answer_in (command_of words) held
+
+-- ---- what a call made of it
+
+-- these bytes are of the output that is the answer, or the refusal is the answer's, as far as this is known
+abbrev pub Prints : Result (Vec ℕ Global) Refusal → Reading Output → Type 0
+Prints (Ok v) reading = (output : Output) × (reading.answer ≡ Ok output) × HasBytes output v.items
+Prints (Err refusal) reading = AgreesRefused refusal reading
+
+abbrev pub PrintsTold : Result (Vec ℕ Global) Refusal → Option Held → (Held → Reading Output) → Type 0
+PrintsTold result None reading = Unit {0}
+PrintsTold result (Some held) reading = Prints result (reading held)

@@ -7,7 +7,7 @@ use Rattle.jp_catalog.specs.declared.error.CatalogError.TheVariants as catalogue
 use Rattle.jp_table.specs.declared.error.TableError.TheVariants as table
 use Rattle.joinplan.specs.declared.refusal.Refusal.{Refusal}
 use Rattle.joinplan.specs.declared.refusal.Refusal.TheVariants as refusal
-use Rattle.joinplan.specs.Words.{Command, Run, Check}
+use Rattle.joinplan.specs.Words.{Command, Run, Explain, Check}
 
 -- counts of faults, one for each name
 abbrev pub Counts : Type 0
@@ -33,4 +33,5 @@ IsSomeTableFile name = (bytes : List ℕ) × (catalog : Catalog) × (catalogue_o
 abbrev pub MayBeRead : Option Command → List ℕ → Type 0
 MayBeRead None name = ⊥
 MayBeRead (Some (Run catalogue statement)) name = (name ≡ catalogue) ⊎ ((name ≡ statement) ⊎ IsSomeTableFile name)
+MayBeRead (Some (Explain catalogue statement)) name = (name ≡ catalogue) ⊎ (name ≡ statement)
 MayBeRead (Some (Check catalogue)) name = (name ≡ catalogue) ⊎ IsSomeTableFile name

@@ -1,5 +1,6 @@
 -- What status 0 says, in the words of the statement: each file that the command needs is there, within its limit and
--- read to its end, and the output is the statement's meaning over the whole tables, or the counts of all tables.
+-- read to its end, and the output is the statement's meaning over the whole tables, the text of its plan, or the counts of
+-- all tables.
 use Rattle.std.specs.Prelude.{◌≡◌, ℕ, ◌≤◌, List, [], ◌∷◌, ◌++◌, length, map, All, Option, Some, None, Ok, slice_get}
 use Rattle.jp_catalog.specs.Reading.{catalogue_of}
 use Rattle.jp_catalog.specs.declared.types.Catalog.{Catalog}
@@ -16,10 +17,13 @@ use Rattle.jp_query.specs.Parts.{tables_in}
 use Rattle.jp_query.specs.declared.Query.{Query, out-Query}
 use Rattle.jp_table.specs.Loading.{table_of}
 use Rattle.jp_resolution.specs.Resolving.{resolved}
+use Rattle.jp_tree.specs.declared.prepared.Prepared.{Prepared}
+use Rattle.jp_prepared.specs.Planned.{IsPrepared}
+use Rattle.jp_explain.specs.Plans.{explain_text}
 use Rattle.jp_session.specs.Output.{output_text}
 use Rattle.joinplan.specs.Answers.{NamedTable, Rows, count_line, file_limit, statement_limit}
 use Rattle.joinplan.specs.Readings.{Held}
-use Rattle.joinplan.specs.Words.{Command, Run, Check, command_of}
+use Rattle.joinplan.specs.Words.{Command, Run, Explain, Check, command_of}
 
 -- a file that is there, whole and within its limit
 pub record IsHeld (held : Held) (name : List ℕ) (limit : ℕ) (bytes : List ℕ) : Type 0 where
@@ -80,6 +84,21 @@ pub record IsInItsOrder (held : Held) (catalogue statement : List ℕ) (bytes : 
   pub meant : IsMeaning held catalogue statement bytes
   pub in_order : IsInOrder (rows_of_tables meant.tables) meant.query no_outer_rows meant.rows
 
+-- These bytes are the text of the statement's plan: of a prepared statement of its query, in which the plan of each block is
+-- the first of the legal trees of its items. No data file is looked at.
+pub record IsPlanText (held : Held) (catalogue statement : List ℕ) (bytes : List ℕ) : Type 0 where
+  pub catalog : Catalog
+  pub catalogue_is : HasCatalogue held catalogue catalog
+  pub source : List ℕ
+  pub source_held : IsHeld held statement statement_limit source
+  pub stmt : Stmt
+  pub statement_is : IsStatementOf source stmt
+  pub query : Query
+  pub query_is : resolved catalog stmt ≡ Ok query
+  pub prepared : Prepared
+  pub is_prepared : IsPrepared catalog query prepared
+  pub printed : bytes ≡ explain_text prepared
+
 -- a line for each table, with the number of its rows
 abbrev pub AreCounted : Held → List NamedTable → List ℕ → Type 0
 AreCounted held [] bytes = bytes ≡ []
@@ -94,6 +113,7 @@ pub record IsCount (held : Held) (catalogue : List ℕ) (bytes : List ℕ) : Typ
 abbrev pub IsAnswerTo : Held → Option Command → List ℕ → Type 0
 IsAnswerTo held None bytes = ⊥
 IsAnswerTo held (Some (Run catalogue statement)) bytes = IsMeaning held catalogue statement bytes
+IsAnswerTo held (Some (Explain catalogue statement)) bytes = IsPlanText held catalogue statement bytes
 IsAnswerTo held (Some (Check catalogue)) bytes = IsCount held catalogue bytes
 
 -- where the contents of the files are told, a sink took the answer to the words
@@ -106,10 +126,11 @@ abbrev pub PrintsAnswer : Option Held → List (List ℕ) → Option (List ℕ) 
 PrintsAnswer None words before now = Unit {0}
 PrintsAnswer (Some held) words before now = TookAnswer held words before now
 
--- the same of the order; the lines of `check` have none of their own
+-- the same of the order; the lines of `explain` and `check` have none of their own
 abbrev pub IsOrderedAnswer : Held → Option Command → List ℕ → Type 0
 IsOrderedAnswer held None bytes = ⊥
 IsOrderedAnswer held (Some (Run catalogue statement)) bytes = IsInItsOrder held catalogue statement bytes
+IsOrderedAnswer held (Some (Explain catalogue statement)) bytes = Unit {0}
 IsOrderedAnswer held (Some (Check catalogue)) bytes = Unit {0}
 
 pub record TookOrdered (held : Held) (words : List (List ℕ)) (before now : Option (List ℕ)) : Type 0 where

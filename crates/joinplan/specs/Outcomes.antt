@@ -3,7 +3,7 @@ use Rattle.std.specs.Prelude.{◌≡◌, ℕ, ◌<◌, ◌⊎◌, ◌-◌, ◌^�
 use Rattle.jp_io.specs.Sinks.{Rose, TookMore, HasRoom}
 use Rattle.joinplan.specs.declared.refusal.Refusal.{Refusal}
 use Rattle.joinplan.specs.declared.refusal.Refusal.TheVariants as refusal
-use Rattle.joinplan.specs.Answers.{answer_of}
+use Rattle.joinplan.specs.Answers.{HasBytes, Output, answer_of}
 use Rattle.joinplan.specs.Faults.{Counts, MayBeRead}
 use Rattle.joinplan.specs.Readings.{Held, Reading}
 use Rattle.joinplan.specs.Lines.{TookLine}
@@ -11,7 +11,7 @@ use Rattle.joinplan.specs.Refusals.{IsSaid, line_of, status_of}
 use Rattle.joinplan.specs.Words.{Command}
 
 abbrev pub Answer : Type 0
-Answer = Reading (List ℕ)
+Answer = Reading Output
 
 abbrev pub answer_told : List (List ℕ) → Option Held → Option Answer
 answer_told words contents = option_map (answer_of words) contents
@@ -38,9 +38,9 @@ abbrev pub FaultIn : Option Answer → Option Command → Counts → Counts → 
 FaultIn (Some answer) words before now = FaultAmong answer.names before now
 FaultIn None words before now = (name : List ℕ) × MayBeRead words name × Rose (before name) (now name)
 
--- these bytes are the output, where it is known
+-- these bytes are of the output, where it is known
 abbrev pub IsOutput : Option Answer → List ℕ → Type 0
-IsOutput told bytes = IfSome told (λ answer. answer.answer ≡ Ok bytes)
+IsOutput told bytes = IfSome told (λ answer. (output : Output) × (answer.answer ≡ Ok output) × HasBytes output bytes)
 
 -- all of the output was taken
 pub record WroteAll (told : Option Answer) (before now : Option (List ℕ)) : Type 0 where
@@ -60,7 +60,7 @@ pub record WrotePart (told : Option Answer) (before now : Option (List ℕ)) : T
 abbrev pub IsCause : Answer → Refusal → Type 0
 IsCause answer refusal.Memory = Unit {0}
 IsCause answer (refusal.ReadFault name) = Contains answer.names name
-IsCause answer refusal.WriteFault = (bytes : List ℕ) × (answer.answer ≡ Ok bytes)
+IsCause answer refusal.WriteFault = (output : Output) × (answer.answer ≡ Ok output)
 IsCause answer other = answer.answer ≡ Err other
 
 abbrev pub NoFault : List (List ℕ) → Counts → Counts → Type 0
@@ -69,26 +69,30 @@ NoFault names before now = (name : List ℕ) → Contains names name → ¬ Rose
 -- ---- completeness
 
 -- all of the output was taken at status 0, or memory was wanting
-abbrev pub IsServed : List ℕ → ℕ → Option (List ℕ) → Option (List ℕ) → Type 0
-IsServed bytes result before now = ((result ≡ 0) × TookMore before bytes now) ⊎ (result ≡ 8)
+abbrev pub IsServed : Output → ℕ → Option (List ℕ) → Option (List ℕ) → Type 0
+IsServed output result before now = ((bytes : List ℕ) × (result ≡ 0) × HasBytes output bytes × TookMore before bytes now) ⊎ (result ≡ 8)
 
 -- Where the answer is an output and nothing fails, it is served.
 abbrev pub IsComplete : Answer → ℕ → Counts → Counts → ℕ → ℕ → Option (List ℕ) → Option (List ℕ) → Type 0
 IsComplete answer result before now sink_before sink_now taken_before taken_now =
-    IfOk answer.answer (λ bytes. NoFault answer.names before now → ¬ Rose sink_before sink_now → IsServed bytes result taken_before taken_now)
+    IfOk answer.answer (λ output. NoFault answer.names before now → ¬ Rose sink_before sink_now → IsServed output result taken_before taken_now)
 
 -- each of these names is known to be read without a fault, and its count isn't at the end of its range
 abbrev pub AreSure : (List ℕ → Bool) → Counts → List (List ℕ) → Type 0
 AreSure sound before names = (name : List ℕ) → Contains names name → (sound name ≡ true) × (before name < 2 ^ 64 - 1)
 
+-- the sink has room for all bytes that the output may have
+abbrev pub HasRoomFor : Option ℕ → Output → Type 0
+HasRoomFor room output = (bytes : List ℕ) → HasBytes output bytes → HasRoom room (length bytes)
+
 -- Where the answer is an output, all files are surely read, and the sink has room for it, it is served.
 abbrev pub IsSurelyServed : (List ℕ → Bool) → Counts → Option ℕ → Answer → ℕ → Option (List ℕ) → Option (List ℕ) → Type 0
 IsSurelyServed sound before room answer result taken_before taken_now =
-    IfOk answer.answer (λ bytes. AreSure sound before answer.names → HasRoom room (length bytes) → IsServed bytes result taken_before taken_now)
+    IfOk answer.answer (λ output. AreSure sound before answer.names → HasRoomFor room output → IsServed output result taken_before taken_now)
 
 -- where the answer is an output for which the sink has room, no fault of the sink is counted
 abbrev pub RoomServes : Option ℕ → Answer → ℕ → ℕ → Type 0
-RoomServes room answer before now = IfOk answer.answer (λ bytes. HasRoom room (length bytes) → now ≡ before)
+RoomServes room answer before now = IfOk answer.answer (λ output. HasRoomFor room output → now ≡ before)
 
 -- of a file that couldn't be read a fault was counted
 abbrev pub IsCounted : Counts → Counts → Refusal → Type 0

@@ -5,4 +5,5 @@ use Rattle.joinplan.specs.Words as spec
 
 abbrev pub command_view : Command → spec.Command
 command_view (command.Run catalogue statement) = spec.Run catalogue.now statement.now
+command_view (command.Explain catalogue statement) = spec.Explain catalogue.now statement.now
 command_view (command.Check catalogue) = spec.Check catalogue.now

@@ -5,7 +5,7 @@ ghost use Rattle.jp_query.specs.Tables.{AllLoaded, IsTypedOver};
 ghost use Rattle.jp_query.specs.Conditions.{IsBounded, IsTyped};
 ghost use Rattle.jp_query.specs.Freshness.{IsFresh};
 ghost use Rattle.jp_resolution.specs.Schemas.{schema_of};
-ghost use Rattle.joinplan.specs.Answers.{answer_of, check_in, command_in, output_in, printed, query_in, run_in};
+ghost use Rattle.joinplan.specs.Answers.{HasBytes, PlanOf, PrintsTold, answer_of, check_in, command_in, explain_in, output_in, plan_in, printed, query_in, run_in};
 ghost use Rattle.joinplan.specs.Faults.{IsExplained, IsTableFile, MayBeRead};
 ghost use Rattle.joinplan.specs.Readings.{AgreesTold};
 ghost use Rattle.joinplan.specs.declared.refusal.Refusal.TheVariants as refusal;
@@ -24,7 +24,7 @@ use jp_catalog::Catalog;
 use jp_io::Files;
 use jp_naive::meaning_of;
 use jp_query::Query;
-use jp_session::output_text;
+use jp_session::{explain_query, output_text, prepare};
 use jp_table::Tables;
 use std::alloc::Global;
 
@@ -33,7 +33,7 @@ pub fn answer<F: Files>(alloc: Global, words: &[String], files: &mut F) -> Resul
     ensures same { F.contents files.new ≡ F.contents files.old }
     ensures kept { NoneFalls (F.faults files.old) (F.faults files.new) }
     ensures sound { StaysSound (F.is_sound files.old) (F.is_sound files.new) (F.faults files.old) (F.faults files.new) }
-    ensures told { AgreesTold (λ v. v.items) result (F.contents files.old) (answer_of (map string_bytes words.now)) }
+    ensures told { PrintsTold result (F.contents files.old) (answer_of (map string_bytes words.now)) }
     ensures explained { command_of (map string_bytes words.now) ≢ None → IfErr result (IsExplained (MayBeRead (command_of (map string_bytes words.now))) (F.faults files.old) (F.faults files.new)) }
     ensures usage { command_of (map string_bytes words.now) ≡ None → result ≡ Err refusal.Usage }
 {
@@ -51,7 +51,7 @@ fn answer_command<F: Files>(
     ensures same { F.contents files.new ≡ F.contents files.old }
     ensures kept { NoneFalls (F.faults files.old) (F.faults files.new) }
     ensures sound { StaysSound (F.is_sound files.old) (F.is_sound files.new) (F.faults files.old) (F.faults files.new) }
-    ensures told { AgreesTold (λ v. v.items) result (F.contents files.old) (command_in (command_view command.entry)) }
+    ensures told { PrintsTold result (F.contents files.old) (command_in (command_view command.entry)) }
     ensures explained { IfErr result (IsExplained (MayBeRead (Some (command_view command.entry))) (F.faults files.old) (F.faults files.new)) }
 {
     match command {
@@ -59,6 +59,10 @@ fn answer_command<F: Files>(
             catalogue,
             statement,
         } => answer_run(alloc, catalogue, statement, files),
+        Command::Explain {
+            catalogue,
+            statement,
+        } => answer_explain(alloc, catalogue, statement, files),
         Command::Check { catalogue } => answer_check(alloc, catalogue, files),
     }
 }
@@ -78,6 +82,56 @@ fn answer_run<F: Files>(
 {
     let catalog = read_catalogue(alloc, files, catalogue)?;
     answer_query(alloc, &catalog, statement, files)
+}
+
+/// The output of `explain CATALOG STATEMENT`.
+fn answer_explain<F: Files>(
+    alloc: Global,
+    catalogue: &str,
+    statement: &str,
+    files: &mut F,
+) -> Result<Vec<u8>, Refusal>
+    ensures same { F.contents files.new ≡ F.contents files.old }
+    ensures kept { NoneFalls (F.faults files.old) (F.faults files.new) }
+    ensures sound { StaysSound (F.is_sound files.old) (F.is_sound files.new) (F.faults files.old) (F.faults files.new) }
+    ensures told { PrintsTold result (F.contents files.old) (explain_in catalogue.now statement.now) }
+    ensures explained { IfErr result (IsExplained (MayBeRead (Some (spec.Explain catalogue.now statement.now))) (F.faults files.old) (F.faults files.new)) }
+{
+    let catalog = read_catalogue(alloc, files, catalogue)?;
+    plan_statement(alloc, &catalog, statement, files)
+}
+
+/// The text of the plan of the statement in a file.
+fn plan_statement<F: Files>(
+    alloc: Global,
+    catalog: &Catalog,
+    statement: &str,
+    files: &mut F,
+) -> Result<Vec<u8>, Refusal>
+    requires sound { IsSound catalog.now }
+    ensures same { F.contents files.new ≡ F.contents files.old }
+    ensures kept { NoneFalls (F.faults files.old) (F.faults files.new) }
+    ensures sound { StaysSound (F.is_sound files.old) (F.is_sound files.new) (F.faults files.old) (F.faults files.new) }
+    ensures told { PrintsTold result (F.contents files.old) (λ held. plan_in held statement.now catalog.now) }
+    ensures explained { IfErr result (IsExplained (λ n. n ≡ statement.now) (F.faults files.old) (F.faults files.new)) }
+{
+    let stmt = read_statement(alloc, files, statement)?;
+    let query = query_of(alloc, catalog, &stmt)?;
+    let bytes = print_plan(alloc, catalog, query)?;
+    Ok(bytes)
+}
+
+/// The plan of a query, printed.
+fn print_plan(alloc: Global, catalog: &Catalog, query: Query) -> Result<Vec<u8>, Memory>
+    requires sound { IsSound catalog.now }
+    requires typed { IsTyped (schema_of catalog.now) [] query }
+    requires bounded { IsBounded (schema_of catalog.now) [] query }
+    requires fresh { IsFresh query }
+    ensures { IfOk result (λ v. HasBytes (PlanOf catalog.now query) v.items) }
+{
+    let prepared = prepare(alloc, catalog, query)?;
+    let text = explain_query(alloc, &prepared, false)?;
+    Ok(text.into_bytes())
 }
 
 /// The output of `check CATALOG`.

@@ -1,7 +1,7 @@
 ghost use Rattle.std.specs.Prelude.{◌≡◌, ◌≤◌, ◌<◌, ◌⊎◌, ◌++◌, ◌-◌, ◌^◌, ℕ, List, [], IfOk, Ok, length, map, string_bytes, true};
 ghost use Rattle.jp_io.specs.MemFiles.{fault_count, is_calm, told_files};
 ghost use Rattle.jp_io.specs.MemSink.{failing_calls, room_left, taken_bytes};
-ghost use Rattle.joinplan.specs.Answers.{answer_of};
+ghost use Rattle.joinplan.specs.Answers.{Bytes, answer_of};
 
 use crate::joinplan;
 use jp_base::{Memory, Txt};
@@ -446,6 +446,89 @@ const COUNTS: &[Row] = &[
     },
 ];
 
+/// Plans of nested loops. No data file is read: the first row's file of b has no header.
+const PLANS: &[Row] = &[
+    Row {
+        name: "two_left_joins",
+        statement: "SELECT a.id, b.id, c.z FROM a LEFT JOIN b ON a.id = b.aid LEFT JOIN c ON b.id = c.bid",
+        file: "b.csv",
+        text: "no header",
+        status: 0,
+        out: "Nest Left rows=1000 cost=111110
+  on: a.id = b.aid
+  Scan a rows=100 cost=100
+  Nest Left rows=1000 cost=11010
+    on: b.id = c.bid
+    Scan b rows=1000 cost=1000
+    Scan c rows=10 cost=10
+",
+        err: "",
+    },
+    Row {
+        name: "one_left_join",
+        statement: "SELECT a.id, b.id FROM b RIGHT JOIN a ON a.id = b.aid",
+        file: "",
+        text: "",
+        status: 0,
+        out: "Nest Left rows=1000 cost=101100
+  on: a.id = b.aid
+  Scan a rows=100 cost=100
+  Scan b rows=1000 cost=1000
+",
+        err: "",
+    },
+    Row {
+        name: "sublink_that_stays",
+        statement: "SELECT id FROM a WHERE id NOT IN (SELECT y FROM b)",
+        file: "",
+        text: "",
+        status: 0,
+        out: "Scan a rows=50 cost=100
+  filter: NOT (a.id IN (#1))
+#1:
+  Scan b rows=1000 cost=1000
+",
+        err: "",
+    },
+    Row {
+        name: "sub_select_with_distinct",
+        statement: "SELECT a.id FROM a JOIN (SELECT DISTINCT aid FROM b) s ON s.aid = a.id",
+        file: "",
+        text: "",
+        status: 0,
+        out: "Nest Inner rows=1000 cost=102100
+  on: s.aid = a.id
+  Scan a rows=100 cost=100
+  Sub s rows=1000 cost=2000
+    Distinct
+    Scan b rows=1000 cost=1000
+",
+        err: "",
+    },
+    Row {
+        name: "full_join",
+        statement: "SELECT a.id, b.id FROM a FULL JOIN b ON a.x = b.y",
+        file: "",
+        text: "",
+        status: 0,
+        out: "Full rows=1100 cost=102200
+  on: a.x = b.y
+  Scan a rows=100 cost=100
+  Scan b rows=1000 cost=1000
+",
+        err: "",
+    },
+    Row {
+        name: "thirteen_entries",
+        statement: "SELECT t1.id FROM a t1, a t2, a t3, a t4, a t5, a t6, a t7, a t8, a t9, a t10, a t11, a t12 WHERE EXISTS (SELECT 1 FROM b)",
+        file: "",
+        text: "",
+        status: 5,
+        out: "",
+        err: "limit: 13 table references, at most 12\n",
+    },
+];
+
 /// A caller's use of completeness: over files and a sink in memory of which no call is to fail, an answer for which the sink has
 /// room is written, and the status is 0, unless memory is refused.
 fn served(
@@ -458,7 +541,7 @@ fn served(
     requires calm { is_calm files.old ≡ true }
     requires low { (name : List ℕ) → fault_count files.old name < 2 ^ 64 - 1 }
     requires calm_out { failing_calls out.old ≡ [] }
-    ensures { (bytes : List ℕ) → (answer_of (map string_bytes words.now) (told_files files.old)).answer ≡ Ok bytes → length bytes ≤ room_left out.old →
+    ensures { (bytes : List ℕ) → (answer_of (map string_bytes words.now) (told_files files.old)).answer ≡ Ok (Bytes bytes) → length bytes ≤ room_left out.old →
         ((result ≡ 0) × (taken_bytes out.new ≡ taken_bytes out.old ++ bytes)) ⊎ (result ≡ 8) }
 {
     joinplan(alloc, words, files, out, err)
@@ -490,8 +573,12 @@ fn files_of(alloc: Global, row: &Row) -> Result<MemFiles, Fail> {
 }
 
 fn run_words(alloc: Global, statement: &str) -> Result<Vec<String>, AllocError> {
+    words_with(alloc, "run", statement)
+}
+
+fn words_with(alloc: Global, verb: &str, statement: &str) -> Result<Vec<String>, AllocError> {
     let mut words = Vec::new(alloc);
-    words.push(String::from_str(alloc, "run")?)?;
+    words.push(String::from_str(alloc, verb)?)?;
     words.push(String::from_str(alloc, "K")?)?;
     words.push(String::from_str(alloc, statement)?)?;
     Ok(words)
@@ -531,6 +618,18 @@ fn answer_of(alloc: Global, words: &[String], row: &Row) -> Result<Answer, Fail>
 fn statements(rt: HostRuntime) -> Result<(), Fail> {
     let words = run_words(rt.alloc(), "q.sql")?;
     for row in ROWS {
+        let answer = answer_of(rt.alloc(), words.as_slice(), row)?;
+        assert_eq!(rt; answer.status, row.status, "{}", row.name);
+        assert_eq!(rt; answer.out.bytes(), row.out.as_bytes(), "{}", row.name);
+        assert_eq!(rt; answer.err.bytes(), row.err.as_bytes(), "{}", row.name);
+    }
+    Ok(())
+}
+
+#[test]
+fn plans(rt: HostRuntime) -> Result<(), Fail> {
+    let words = words_with(rt.alloc(), "explain", "q.sql")?;
+    for row in PLANS {
         let answer = answer_of(rt.alloc(), words.as_slice(), row)?;
         assert_eq!(rt; answer.status, row.status, "{}", row.name);
         assert_eq!(rt; answer.out.bytes(), row.out.as_bytes(), "{}", row.name);

@@ -10,6 +10,11 @@ pub enum Command<'a> {
         catalogue: &'a str,
         statement: &'a str,
     },
+    /// `explain CATALOG STATEMENT`
+    Explain {
+        catalogue: &'a str,
+        statement: &'a str,
+    },
     /// `check CATALOG`
     Check {
         catalogue: &'a str,
@@ -22,6 +27,10 @@ pub fn command_of(words: &[String]) -> Option<Command<'_>>
 {
     match words {
         [verb, catalogue, statement] if verb.as_str() == "run" => Some(Command::Run {
+            catalogue: catalogue.as_str(),
+            statement: statement.as_str(),
+        }),
+        [verb, catalogue, statement] if verb.as_str() == "explain" => Some(Command::Explain {
             catalogue: catalogue.as_str(),
             statement: statement.as_str(),
         }),

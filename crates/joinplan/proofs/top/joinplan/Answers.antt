@@ -6,6 +6,7 @@ use Rattle.joinplan.specs.Outcomes.{IsOutput, answer_told}
 use Rattle.joinplan.specs.Words.{command_of}
 use Rattle.joinplan.proofs.HeadlineLemmas.{prints_answer, prints_in_order}
 use Rattle.joinplan.proofs.OutcomeLemmas.{counted, no_write, output_told, refusal_told, said, write_cause, wrote_part}
+use Rattle.joinplan.proofs.SureLemmas.{refused_complete, refused_surely}
 use Rattle.joinplan.proofs.top.joinplan.Goals as goal
 
 pub returns-in-Ok-clause-prefix : goal.returns-in-Ok-clause-prefix
@@ -54,3 +55,19 @@ returns-clause-line g c = λ _.
       counted = counted (command_of words) _ _ r e.explained e.usage;
       line = c.report-in-Err.ensures.line;
     }
+
+pub returns-clause-complete : goal.returns-clause-complete
+returns-clause-complete g c =
+    let words = map string_bytes c.args.words.now in
+    let contents = g.F.Files.contents c.args.files.now in
+    let r = c.in-Err.refusal in
+    let e = c.in-Err.ensures in
+    refused_complete (g.F.Files.is_sound c.args.files.now) (g.F.Files.is_sound c.args.files.now) _ _ (g.O.Sink.room c.args.out.now) _ _ words contents r _ _ _ e.told (no_write (command_of words) _ _ r e.explained e.usage) (counted (command_of words) _ _ r e.explained e.usage) c.report-in-Err.ensures.status
+
+pub returns-clause-surely : goal.returns-clause-surely
+returns-clause-surely g c =
+    let words = map string_bytes c.args.words.now in
+    let contents = g.F.Files.contents c.args.files.now in
+    let r = c.in-Err.refusal in
+    let e = c.in-Err.ensures in
+    refused_surely _ _ _ _ _ _ _ words contents r _ e.told (no_write (command_of words) _ _ r e.explained e.usage) (counted (command_of words) _ _ r e.explained e.usage) e.sound c.report-in-Err.ensures.status
