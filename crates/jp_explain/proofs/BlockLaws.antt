@@ -21,7 +21,7 @@ use Rattle.jp_tree.specs.BlockParts.{blocks_of_item, blocks_of_kind}
 use Rattle.jp_tree.specs.Prepared.{IsWhole, IsPlannable, HasPlan}
 use Rattle.jp_explain.specs.Lines.{deeper}
 use Rattle.jp_explain.specs.Plans.{Inner, IsBehind, block_text, head_lines, item_texts, plan_at, plan_of, plan_text, plans_behind, plans_from, problem_at, problem_of, scan_lines, scan_text, step_lines, tree_text}
-use Rattle.jp_explain.specs.PlanTrees.{IsLegalAt, tree_at}
+use Rattle.jp_tree.specs.PlanTrees.{IsLegalAt, tree_at}
 use Rattle.jp_explain.proofs.PlanLaws.{tree_join, tree_scan}
 
 -- ---- lists

@@ -24,7 +24,7 @@ use Rattle.jp_tree.specs.declared.prepared.Block.{Block}
 use Rattle.jp_tree.specs.declared.prepared.Prepared.{Prepared}
 use Rattle.jp_explain.specs.Lines.{deeper, numbers, conditions, sort_line, distinct_line}
 use Rattle.jp_explain.specs.Names.{Names, relation_name}
-use Rattle.jp_explain.specs.PlanTrees.{tree_at}
+use Rattle.jp_tree.specs.PlanTrees.{tree_at}
 
 -- ---- the parts of a line
 

@@ -1,7 +1,7 @@
 ghost use Rattle.std.specs.Prelude.{◌≡◌, ◌<◌, ◌++◌, OnOk, All, Some, length, slice_get, string_bytes};
 ghost use Rattle.jp_tree.specs.BlockParts.{blocks_of_kind};
 ghost use Rattle.jp_tree.specs.Prepared.{IsWhole};
-ghost use Rattle.jp_explain.specs.PlanTrees.{IsLegalAt, tree_at};
+ghost use Rattle.jp_tree.specs.PlanTrees.{IsLegalAt, tree_at};
 ghost use Rattle.jp_explain.specs.Plans.{IsBehind, block_text, item_texts, plan_at, plan_text, plans_behind, problem_at, scan_text, tree_text};
 
 use crate::lines::{deeper, push_head};

@@ -5,7 +5,7 @@ ghost use Rattle.jp_problem.specs.Made.{IsEstimable, IsSearchable};
 ghost use Rattle.jp_problem.specs.Trees.{set_of};
 ghost use Rattle.jp_tree.specs.Pools.{IsTreeOf};
 ghost use Rattle.jp_cost.specs.TreeCosts.{scan_cost, tree_cost};
-ghost use Rattle.jp_explain.specs.PlanTrees.{IsLegalAt, tree_at};
+ghost use Rattle.jp_tree.specs.PlanTrees.{IsLegalAt, tree_at};
 
 use jp_base::{ItemNo, RelSet};
 use jp_cost::{estimate, step_cost};

@@ -18,7 +18,7 @@ use Rattle.jp_problem.specs.Sets.{is_empty}
 use Rattle.jp_cost.specs.Estimates.{at_most, divided, divisor, divisor_at, estimate, estimate_in, values_at, values_of}
 use Rattle.jp_explain.specs.Expressions.{Level, Printed, expr_text, printed, printed_level, text_of}
 use Rattle.jp_explain.specs.Lines.{line_of}
-use Rattle.jp_explain.specs.PlanTrees.{tree_at, tree_within}
+use Rattle.jp_tree.specs.PlanTrees.{tree_at, tree_within}
 use Rattle.jp_explain.specs.Plans.{blocks_of_sublink, explain_text, plans_from, problem_at, scan_lines, step_lines, sublinks_from, tree_text}
 use Rattle.jp_explain.proofs.TextLaws.{at}
 use Rattle.jp_explain_tests.specs.Layouts.{conditioned, joined, joined_by, layout, tested_before, tested_behind}
