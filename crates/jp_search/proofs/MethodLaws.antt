@@ -1,0 +1,178 @@
+-- The method of a step is the first of those that it allows, by the cost of the step and the rank of the method.
+use Rattle.std.proofs.Common.{◌≡◌, ◌∙◌, sym, ap, subst, refl, ℕ, ◌+◌, ◌<◌, ◌≤◌, ◌⊎◌, inl, inr, Bool, true, false, arith, Option, Some, None}
+use Rattle.std.specs.Prelude.{IsSome, IsTrue, ◌↔◌, is_some, nat_lt, if◌then◌else◌}
+use Rattle.std.proofs.lemmas.Bool.{both_ways, cases_eq, ltb-true, ltb-false}
+use Rattle.jp_problem.specs.declared.types.Problem.{Problem}
+use Rattle.jp_problem.specs.declared.types.Method.{Method}
+use Rattle.jp_problem.specs.declared.types.Method.TheVariants.{Nest, Hash, HashRight, Merge}
+use Rattle.jp_problem.specs.declared.types.Step.{Step}
+use Rattle.jp_problem.specs.Keys.{IsAllowed, is_by_left, key_of}
+use Rattle.jp_cost.specs.Costs.{cost}
+use Rattle.jp_search.specs.declared.table.Choice.{Choice}
+use Rattle.jp_search.specs.declared.table.Found.{Found}
+use Rattle.jp_search.specs.Splits.{by_key, cheaper, is_dearer, lesser, method_of, stepped}
+use Rattle.jp_search.specs.TreeOrder.{Then, rank}
+
+-- ---- by the rows of the two parts
+
+module _ (left right : ℕ) where
+  abbrev pub IsNoLater : Method → Method → Type 0
+  IsNoLater m n = Then (cost m left right) (cost n left right) (rank m ≤ rank n)
+
+  itself : (m : Method) → IsNoLater m m
+  itself m = inr (refl, omega arith)
+
+  through : (m n o : Method) → IsNoLater m n → IsNoLater n o → IsNoLater m o
+  through m n o (inl p) (inl q) = inl (omega (arith, p, q))
+  through m n o (inl p) (inr q) = inl (omega (arith, p, q.0))
+  through m n o (inr p) (inl q) = inl (omega (arith, p.0, q))
+  through m n o (inr p) (inr q) = inr (p.0 ∙ q.0, omega (arith, p.1, q.1))
+
+  cheaper_of : (P : Method → Type 0) (m n : Method) → P m → P n → P (cheaper left right m n)
+  cheaper_of P m n p q = go (nat_lt (cost n left right) (cost m left right))
+    where
+      go : (t : Bool) → P (if t then n else m)
+      go true = q
+      go false = p
+
+  cheaper_first : (m n : Method) → rank m ≤ rank n → IsNoLater (cheaper left right m n) m × IsNoLater (cheaper left right m n) n
+  cheaper_first m n low = go (nat_lt (cost n left right) (cost m left right)) refl
+    where
+      go : (t : Bool) → nat_lt (cost n left right) (cost m left right) ≡ t → IsNoLater (if t then n else m) m × IsNoLater (if t then n else m) n
+      go true less = (inl (ltb-true (cost n left right) (cost m left right) less), itself n)
+      go false more = (itself m, elim (cases_eq (cost m left right) (cost n left right)) [ inl same ↦ inr (same, low) | inr differ ↦ inl (omega (arith, differ, ltb-false (cost n left right) (cost m left right) more)) ])
+
+  least_rank : (m : Method) → rank Nest ≤ rank m
+  least_rank m = omega arith
+
+  abbrev hashed : Bool → Method
+  hashed by_left = if by_left then cheaper left right Hash HashRight else Hash
+
+  hashed_rank : (by_left : Bool) → rank (hashed by_left) ≤ rank Merge
+  hashed_rank true = cheaper_of (λ m. rank m ≤ 3) Hash HashRight (omega arith) (omega arith)
+  hashed_rank false = omega arith
+
+  hashed_first : (by_left : Bool) → IsNoLater (hashed by_left) Hash × (by_left ≡ true → IsNoLater (hashed by_left) HashRight)
+  hashed_first true = let first = cheaper_first Hash HashRight (omega arith) in (first.0, λ e. first.1)
+  hashed_first false = (itself Hash, λ e. absurd (both_ways false refl e))
+
+  keyed_first : (by_left : Bool) → IsNoLater (by_key by_left left right) Hash × (by_left ≡ true → IsNoLater (by_key by_left left right) HashRight) × IsNoLater (by_key by_left left right) Merge
+  keyed_first by_left =
+      let first = cheaper_first (hashed by_left) Merge (hashed_rank by_left) in
+      let among = hashed_first by_left in
+      (through (by_key by_left left right) (hashed by_left) Hash first.0 among.0, (λ e. through (by_key by_left left right) (hashed by_left) HashRight first.0 (among.1 e)), first.1)
+
+-- ---- the methods of a step
+
+pub lacks_key : {X : Type 0} (o : Option X) (b : Bool) → IsTrue b ↔ IsSome o → b ≡ false → is_some o ≡ false
+lacks_key (Some x) b says e = absurd (both_ways b e (says.1 refl))
+lacks_key None b says e = refl
+
+module _ (problem : Problem) (left right : ℕ) (kind : Step) (rows others : ℕ) where
+  abbrev keyed : Method
+  keyed = by_key (is_by_left problem kind) rows others
+
+  abbrev pub method : Method
+  method = method_of problem left right kind rows others
+
+  with_key : is_some (key_of problem left right kind) ≡ true → method ≡ cheaper rows others Nest keyed
+  unfolding method_of
+  with_key e = ap (λ b. if b then cheaper rows others Nest keyed else Nest) e
+
+  without_key : is_some (key_of problem left right kind) ≡ false → method ≡ Nest
+  unfolding method_of
+  without_key e = ap (λ b. if b then cheaper rows others Nest keyed else Nest) e
+
+  -- with a key or without one
+  module _ (P : Method → Type 0) where
+    by_cases : (is_some (key_of problem left right kind) ≡ true → P (cheaper rows others Nest keyed)) → P Nest → P method
+    by_cases has lacks = go (is_some (key_of problem left right kind)) refl
+      where
+        go : (b : Bool) → is_some (key_of problem left right kind) ≡ b → P method
+        go true e = subst P (sym (with_key e)) (has e)
+        go false e = subst P (sym (without_key e)) lacks
+
+  pub method_allowed : IsAllowed problem left right kind method
+  method_allowed = by_cases (IsAllowed problem left right kind) (λ e. cheaper_of rows others (IsAllowed problem left right kind) Nest keyed tt (keyed_allowed e (is_by_left problem kind) refl)) tt
+    where
+      keyed_allowed : IsSome (key_of problem left right kind) → (b : Bool) → is_by_left problem kind ≡ b → IsAllowed problem left right kind (by_key b rows others)
+      keyed_allowed key true e = cheaper_of rows others (IsAllowed problem left right kind) (cheaper rows others Hash HashRight) Merge (cheaper_of rows others (IsAllowed problem left right kind) Hash HashRight key (key, e)) key
+      keyed_allowed key false e = cheaper_of rows others (IsAllowed problem left right kind) Hash Merge key key
+
+  -- where the step has a key, it is no later than Nest and than each that needs one
+  after_key : IsSome (key_of problem left right kind) → IsNoLater rows others method Nest × IsNoLater rows others method keyed
+  after_key key = subst (λ m. IsNoLater rows others m Nest × IsNoLater rows others m keyed) (sym (with_key key)) (cheaper_first rows others Nest keyed (least_rank rows others keyed))
+
+  pub method_first : (n : Method) → IsAllowed problem left right kind n → IsNoLater rows others method n
+  method_first Nest allowed = by_cases (λ m. IsNoLater rows others m Nest) (λ e. (cheaper_first rows others Nest keyed (least_rank rows others keyed)).0) (itself rows others Nest)
+  method_first Hash allowed = through rows others method keyed Hash (after_key allowed).1 (keyed_first rows others (is_by_left problem kind)).0
+  method_first HashRight allowed = through rows others method keyed HashRight (after_key allowed.0).1 ((keyed_first rows others (is_by_left problem kind)).1 allowed.1)
+  method_first Merge allowed = through rows others method keyed Merge (after_key allowed).1 (keyed_first rows others (is_by_left problem kind)).2
+
+-- ---- the three answers of a step
+
+module _ (problem : Problem) (left right : ℕ) (kind : Step) (a b : Found) where
+  abbrev by_method : Method → Choice
+  by_method m = stepped m kind a b
+
+  abbrev best : Choice
+  best = by_method (method_of problem left right kind a.rows b.rows)
+
+  abbrev other : Method
+  other = by_key (is_by_left problem kind) a.rows b.rows
+
+  same_step : (least : Option Choice) (c : Choice) (m : Method) → c ≡ by_method m → method_of problem left right kind a.rows b.rows ≡ m → lesser least (Some c) ≡ lesser least (Some best)
+  same_step least c m is e = ap (λ x. lesser least (Some x)) (is ∙ ap by_method (sym e))
+
+  nest_stays : cost Nest a.rows b.rows ≤ cost other a.rows b.rows → cheaper a.rows b.rows Nest other ≡ Nest
+  nest_stays low = go (nat_lt (cost other a.rows b.rows) (cost Nest a.rows b.rows)) refl
+    where
+      go : (t : Bool) → nat_lt (cost other a.rows b.rows) (cost Nest a.rows b.rows) ≡ t → (if t then other else Nest) ≡ Nest
+      go true less = absurd (omega (arith, low, ltb-true (cost other a.rows b.rows) (cost Nest a.rows b.rows) less))
+      go false more = refl
+
+  other_wins : cost other a.rows b.rows < cost Nest a.rows b.rows → cheaper a.rows b.rows Nest other ≡ other
+  other_wins less = go (nat_lt (cost other a.rows b.rows) (cost Nest a.rows b.rows)) refl
+    where
+      go : (t : Bool) → nat_lt (cost other a.rows b.rows) (cost Nest a.rows b.rows) ≡ t → (if t then other else Nest) ≡ other
+      go true e = refl
+      go false more = absurd (omega (arith, less, ltb-false (cost other a.rows b.rows) (cost Nest a.rows b.rows) more))
+
+  module _ (least : Option Choice) (nest keyed : Choice) (m : Method) (nest_is : nest ≡ by_method Nest) (m_is : m ≡ other) (keyed_is : keyed ≡ by_method m) where
+    keyed_by : keyed ≡ by_method other
+    keyed_by = keyed_is ∙ ap by_method m_is
+
+    costs_nest : nest.cost ≡ a.cost + b.cost + cost Nest a.rows b.rows
+    costs_nest = ap (λ (c : Choice). c.cost) nest_is
+
+    costs_keyed : keyed.cost ≡ a.cost + b.cost + cost other a.rows b.rows
+    costs_keyed = ap (λ (c : Choice). c.cost) keyed_by
+
+    pub no_dearer : nest.cost ≤ keyed.cost → lesser least (Some nest) ≡ lesser least (Some best)
+    no_dearer low = same_step least nest Nest nest_is (by_cases problem left right kind a.rows b.rows (λ x. x ≡ Nest) (λ e. nest_stays (omega (arith, low, costs_nest, costs_keyed))) refl)
+
+    pub has_none : is_some (key_of problem left right kind) ≡ false → lesser least (Some nest) ≡ lesser least (Some best)
+    has_none e = same_step least nest Nest nest_is (without_key problem left right kind a.rows b.rows e)
+
+    pub by_its_key : keyed.cost < nest.cost → is_some (key_of problem left right kind) ≡ true → lesser least (Some keyed) ≡ lesser least (Some best)
+    by_its_key less e = same_step least keyed other keyed_by (with_key problem left right kind a.rows b.rows e ∙ other_wins (omega (arith, less, costs_nest, costs_keyed)))
+
+    -- dearer than the least so far by each method
+    pub passed_over : keyed.cost < nest.cost → is_dearer keyed.cost least ≡ true → lesser least (Some keyed) ≡ lesser least (Some best)
+    passed_over less dear = go least dear
+      where
+        more : keyed.cost ≤ best.cost
+        more = by_cases problem left right kind a.rows b.rows (λ x. keyed.cost ≤ (by_method x).cost)
+            (λ e. cheaper_of a.rows b.rows (λ x. keyed.cost ≤ (by_method x).cost) Nest other (omega (arith, less, costs_nest)) (omega (arith, costs_keyed)))
+            (omega (arith, less, costs_nest))
+
+        go : (o : Option Choice) → is_dearer keyed.cost o ≡ true → lesser o (Some keyed) ≡ lesser o (Some best)
+        go None e = absurd (both_ways false refl e)
+        go (Some c) e = kept keyed (ltb-true c.cost keyed.cost e) ∙ sym (kept best (omega (arith, more, ltb-true c.cost keyed.cost e)))
+          where
+            kept : (x : Choice) → c.cost < x.cost → lesser (Some c) (Some x) ≡ Some c
+            kept x low = by (nat_lt c.cost x.cost) refl
+              where
+                by : (t : Bool) → nat_lt c.cost x.cost ≡ t → (if t then Some c else Some x) ≡ Some c
+                by true e = refl
+                by false more = absurd (omega (arith, low, ltb-false c.cost x.cost more))
