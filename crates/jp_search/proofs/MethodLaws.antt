@@ -1,16 +1,24 @@
 -- The method of a step is the first of those that it allows, by the cost of the step and the rank of the method.
-use Rattle.std.proofs.Common.{◌≡◌, ◌∙◌, sym, ap, subst, refl, ℕ, ◌+◌, ◌<◌, ◌≤◌, ◌⊎◌, inl, inr, Bool, true, false, arith, Option, Some, None}
-use Rattle.std.specs.Prelude.{IsSome, IsTrue, ◌↔◌, is_some, nat_lt, if◌then◌else◌}
+use Rattle.std.proofs.Common.{◌≡◌, ◌∙◌, sym, ap, ap₂, subst, refl, ℕ, ◌+◌, ◌<◌, ◌≤◌, ◌⊎◌, inl, inr, Bool, true, false, not, ◌&&◌, ◌||◌, arith, List, [], ◌∷◌, ◌++◌, map, filter, length, Option, Some, None}
+use Rattle.std.specs.Prelude.{IsSome, IsTrue, ◌↔◌, bit_or, is_none, is_some, nat_lt, if◌then◌else◌}
+use Rattle.std.specs.List.{flat_map, list_any}
 use Rattle.std.proofs.lemmas.Bool.{both_ways, cases_eq, ltb-true, ltb-false}
 use Rattle.jp_problem.specs.declared.types.Problem.{Problem}
 use Rattle.jp_problem.specs.declared.types.Method.{Method}
 use Rattle.jp_problem.specs.declared.types.Method.TheVariants.{Nest, Hash, HashRight, Merge}
+use Rattle.jp_problem.specs.declared.types.Clause.{Clause}
+use Rattle.jp_problem.specs.declared.types.Special.{Special}
+use Rattle.jp_problem.specs.declared.types.Stage.{Stage}
 use Rattle.jp_problem.specs.declared.types.Step.{Step}
-use Rattle.jp_problem.specs.Keys.{IsAllowed, is_by_left, key_of}
+use Rattle.jp_problem.specs.declared.types.Step.TheVariants.{Inner, By}
+use Rattle.jp_problem.specs.Keys.{IsAllowed, first_key, is_by_left, key_of, on_of}
+use Rattle.jp_problem.specs.Problems.{join_of, problem_rels}
+use Rattle.jp_problem.specs.Sets.{is_within}
+use Rattle.jp_problem.specs.StepClauses.{expr_of, is_open, is_open_class, of_class, stands_alone, step_clauses, step_stage, was_there}
 use Rattle.jp_cost.specs.Costs.{cost}
 use Rattle.jp_search.specs.declared.table.Choice.{Choice}
 use Rattle.jp_search.specs.declared.table.Found.{Found}
-use Rattle.jp_search.specs.Splits.{by_key, cheaper, is_dearer, lesser, method_of, stepped}
+use Rattle.jp_search.specs.Splits.{by_key, cheaper, is_dearer, lesser, lies_in, may_have_key, method_of, stepped}
 use Rattle.jp_search.specs.TreeOrder.{Then, rank}
 
 -- ---- by the rows of the two parts
@@ -109,7 +117,47 @@ module _ (problem : Problem) (left right : ℕ) (kind : Step) (rows others : ℕ
   method_first HashRight allowed = through rows others method keyed HashRight (after_key allowed.0).1 ((keyed_first rows others (is_by_left problem kind)).1 allowed.1)
   method_first Merge allowed = through rows others method keyed Merge (after_key allowed).1 (keyed_first rows others (is_by_left problem kind)).2
 
--- ---- the three answers of a step
+-- ---- where no step has a key
+
+is_empty : {X : Type 0} (xs : List X) → nat_lt 0 (length xs) ≡ false → xs ≡ []
+is_empty [] e = refl
+is_empty (x ∷ xs) e = absurd (omega (arith, ltb-false 0 (length (x ∷ xs)) e))
+
+and_false : (a b c d : Bool) → c ≡ false → (a && (b && (c && d))) ≡ false
+and_false true true c d e = ap (λ k. k && d) e
+and_false true false c d e = refl
+and_false false b c d e = refl
+
+or_parts : (a b c : Bool) → (a || (b || c)) ≡ false → (a ≡ false) × (b ≡ false) × (c ≡ false)
+or_parts true b c e = absurd (both_ways false refl (sym e))
+or_parts false true c e = absurd (both_ways false refl (sym e))
+or_parts false false c e = (refl, refl, e)
+
+none_alone : (joins : List Special) (stage : Stage) (cs : List Clause) → list_any (lies_in stage.whole) cs ≡ false → filter (stands_alone joins stage) cs ≡ []
+none_alone joins stage [] e = refl
+none_alone joins stage (c ∷ cs) e = go (lies_in stage.whole c) refl e (λ h. none_alone joins stage cs h)
+  where
+    go : (b : Bool) → lies_in stage.whole c ≡ b → (b || list_any (lies_in stage.whole) cs) ≡ false → (list_any (lies_in stage.whole) cs ≡ false → filter (stands_alone joins stage) cs ≡ []) → filter (stands_alone joins stage) (c ∷ cs) ≡ []
+    go true h e rest = absurd (both_ways false refl (sym e))
+    go false h e rest =
+        ap (λ b. if b then c ∷ filter (stands_alone joins stage) cs else filter (stands_alone joins stage) cs) (and_false (is_none c.class) (is_open joins stage.whole c.region) (is_within c.req stage.whole) (not (was_there stage c.req)) h)
+        ∙ rest e
+
+module _ (problem : Problem) (left right : ℕ) (none : may_have_key problem (bit_or left right) ≡ false) where
+  parts : (nat_lt 0 (length problem.classes) ≡ false) × (nat_lt 0 (length problem.joins) ≡ false) × (list_any (lies_in (bit_or left right)) problem.clauses ≡ false)
+  unfolding may_have_key
+  parts = or_parts (nat_lt 0 (length problem.classes)) (nat_lt 0 (length problem.joins)) (list_any (lies_in (bit_or left right)) problem.clauses) none
+
+  no_clauses : step_clauses problem left right ≡ []
+  no_clauses =
+      ap₂ (λ classes clauses. flat_map (of_class (step_stage left right)) (filter (is_open_class problem.joins (bit_or left right)) classes) ++ map expr_of clauses)
+      (is_empty problem.classes parts.0) (none_alone problem.joins (step_stage left right) problem.clauses parts.2)
+
+  no_key : (kind : Step) → is_some (key_of problem left right kind) ≡ false
+  no_key Inner = ap (λ list. is_some (first_key (problem_rels problem) left right list)) no_clauses
+  no_key (By number) = ap (λ joins. is_some (first_key (problem_rels problem) left right (on_of (join_of joins number)))) (is_empty problem.joins parts.1)
+
+-- ---- the answers of a step
 
 module _ (problem : Problem) (left right : ℕ) (kind : Step) (a b : Found) where
   abbrev by_method : Method → Choice
@@ -137,6 +185,9 @@ module _ (problem : Problem) (left right : ℕ) (kind : Step) (a b : Found) wher
       go : (t : Bool) → nat_lt (cost other a.rows b.rows) (cost Nest a.rows b.rows) ≡ t → (if t then other else Nest) ≡ other
       go true e = refl
       go false more = absurd (omega (arith, less, ltb-false (cost other a.rows b.rows) (cost Nest a.rows b.rows) more))
+
+  pub without_any : (least : Option Choice) (nest : Choice) → nest ≡ by_method Nest → may_have_key problem (bit_or left right) ≡ false → lesser least (Some nest) ≡ lesser least (Some best)
+  without_any least nest is none = same_step least nest Nest is (without_key problem left right kind a.rows b.rows (no_key problem left right none kind))
 
   module _ (least : Option Choice) (nest keyed : Choice) (m : Method) (nest_is : nest ≡ by_method Nest) (m_is : m ≡ other) (keyed_is : keyed ≡ by_method m) where
     keyed_by : keyed ≡ by_method other

@@ -1,13 +1,15 @@
 -- The splits of a set into a left and a right part, and the best of them.
-use Rattle.std.specs.Prelude.{◌≡◌, ℕ, ◌+◌, ◌<◌, ◌≤◌, nat_lt, Bool, false, List, Option, Some, None, is_some, slice_get, if◌then◌else◌}
+use Rattle.std.specs.Prelude.{◌≡◌, ℕ, ◌+◌, ◌<◌, ◌≤◌, nat_lt, ◌||◌, Bool, false, length, List, Option, Some, None, is_some, slice_get, if◌then◌else◌}
+use Rattle.std.specs.List.{list_any}
 use Rattle.jp_base.specs.Sets.{Within}
 use Rattle.jp_problem.specs.declared.types.Problem.{Problem}
+use Rattle.jp_problem.specs.declared.types.Clause.{Clause}
 use Rattle.jp_problem.specs.declared.types.Method.{Method}
 use Rattle.jp_problem.specs.declared.types.Method.TheVariants.{Nest, Hash, HashRight, Merge}
 use Rattle.jp_problem.specs.declared.types.Step.{Step}
 use Rattle.jp_problem.specs.Keys.{is_by_left, key_of}
 use Rattle.jp_problem.specs.LegalTests.{step_of}
-use Rattle.jp_problem.specs.Sets.{without}
+use Rattle.jp_problem.specs.Sets.{is_within, without}
 use Rattle.jp_cost.specs.Costs.{cost}
 use Rattle.jp_tree.specs.declared.pool.PlanNode.TheVariants.{Scan, Join}
 use Rattle.jp_search.specs.declared.table.Choice.{Choice}
@@ -32,6 +34,13 @@ by_key by_left left right = cheaper left right (if by_left then cheaper left rig
 unfoldable pub method_of : Problem → ℕ → ℕ → Step → ℕ → ℕ → Method
 method_of problem left right kind rows others =
     if is_some (key_of problem left right kind) then cheaper rows others Nest (by_key (is_by_left problem kind) rows others) else Nest
+
+-- there is a clause of the set, a class or a special join, without which no step of its parts has a key
+abbrev pub lies_in : ℕ → Clause → Bool
+lies_in set c = is_within c.req set
+
+unfoldable pub may_have_key : Problem → ℕ → Bool
+may_have_key problem set = nat_lt 0 (length problem.classes) || (nat_lt 0 (length problem.joins) || list_any (lies_in set) problem.clauses)
 
 -- a step by this method and of this kind of the first trees of two sets
 abbrev pub stepped : Method → Step → Found → Found → Choice

@@ -1,18 +1,37 @@
-//! The method of a step. Whether a step has a key is asked only where it could tell: most steps of a search are dearer than
-//! the least one of their set, whatever their method.
+//! The method of a step. Whether a step has a key is asked only where it may have one and where that would tell: most steps
+//! of a search are dearer than the least one of their set, whatever their method.
 
-ghost use Rattle.std.specs.Prelude.{◌≡◌, ◌≤◌, ◌^◌, Some};
+ghost use Rattle.std.specs.Prelude.{◌≡◌, ◌≤◌, ◌^◌, bit_or, nat_lt, length, Some};
+ghost use Rattle.std.specs.List.{list_any};
 ghost use Rattle.jp_problem.specs.Keys.{is_by_left};
 ghost use Rattle.jp_problem.specs.Legal.{IsLegalStep};
-ghost use Rattle.jp_search.specs.Splits.{by_key, cheaper, is_dearer, lesser, method_of, stepped};
+ghost use Rattle.jp_search.specs.Splits.{by_key, cheaper, is_dearer, lesser, lies_in, may_have_key, method_of, stepped};
 
 use crate::table::{Choice, Found};
 use jp_base::RelSet;
 use jp_cost::step_cost;
-use jp_problem::{Method, Problem, Step, has_key, is_left, join_of};
+use jp_problem::sets::is_within;
+use jp_problem::{Clause, Method, Problem, Step, has_key, is_left, join_of};
 use jp_tree::PlanNode;
 
-/// A step of two trees by the cheapest method that it allows, or any where it costs more than the least so far.
+/// Whether a step of parts of the set may have a key.
+#[tactic(auto, unfolding(crate::specs::Splits::may_have_key))]
+pub fn may_have_key(problem: &Problem, set: RelSet) -> bool
+    ensures { result ≡ may_have_key problem.now set }
+{
+    0 < problem.classes.len()
+        || 0 < problem.joins.len()
+        || has_clause(problem.clauses.as_slice(), set)
+}
+
+fn has_clause(clauses: &[Clause], set: RelSet) -> bool
+    ensures { result ≡ list_any (lies_in set) clauses.now }
+{
+    clauses.iter().any(|clause| is_within(clause.req, set))
+}
+
+/// A step of two trees by the cheapest method that it allows, or any where it costs more than the least so far. `keys` says
+/// whether it may have a key.
 pub fn step(
     problem: &Problem,
     left: RelSet,
@@ -20,8 +39,10 @@ pub fn step(
     kind: Step,
     a: Found,
     b: Found,
+    keys: bool,
     least: Option<Choice>,
 ) -> Choice
+    requires keys { keys ≡ may_have_key problem.now (bit_or left right) }
     requires legal { IsLegalStep problem.now left right kind }
     requires left_cost { a.cost ≤ 2 ^ 126 }
     requires right_cost { b.cost ≤ 2 ^ 126 }
@@ -30,6 +51,9 @@ pub fn step(
     ensures { lesser least (Some result) ≡ lesser least (Some (stepped (method_of problem.now left right kind a.rows b.rows) kind a b)) }
 {
     let nest = stepped(Method::Nest, kind, a, b);
+    if !keys {
+        return nest;
+    }
     let method = by_key(is_by_left(problem, kind), a.rows, b.rows);
     let keyed = stepped(method, kind, a, b);
     if nest.cost <= keyed.cost {

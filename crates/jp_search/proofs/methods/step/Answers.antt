@@ -3,8 +3,11 @@ use Rattle.std.specs.Prelude.{is_some}
 use Rattle.std.proofs.lemmas.Bool.{both_ways}
 use Rattle.jp_problem.specs.Keys.{key_of}
 use Rattle.jp_search.specs.Splits.{by_key}
-use Rattle.jp_search.proofs.MethodLaws.{no_dearer, passed_over, by_its_key, has_none, lacks_key}
+use Rattle.jp_search.proofs.MethodLaws.{without_any, no_dearer, passed_over, by_its_key, has_none, lacks_key}
 use Rattle.jp_search.proofs.methods.step.Goals as goal
+
+pub returns-then-not-keys : goal.returns-then-not-keys
+returns-then-not-keys c = without_any c.args.problem.now c.args.left c.args.right c.args.kind c.args.a c.args.b c.args.least c.stepped-nest.result c.stepped-nest.ensures (sym c.requires.keys ∙ c.if-not-keys.true)
 
 pub returns-then-nest-keyed : goal.returns-then-nest-keyed
 returns-then-nest-keyed c =

@@ -2,6 +2,7 @@ use Rattle.std.proofs.Common.{◌∙◌, sym, ap, subst, ◌<◌, length, arith}
 use Rattle.std.specs.Prelude.{bit_or}
 use Rattle.jp_problem.specs.Legal.{Apart}
 use Rattle.jp_search.specs.Joins.{facts_of}
+use Rattle.jp_search.specs.Splits.{may_have_key}
 use Rattle.jp_search.proofs.CountLaws.{place_below, next_place}
 use Rattle.jp_search.proofs.PartLaws.{part_and_rest, part_apart, not_zero}
 use Rattle.jp_search.proofs.SplitLaws.{none_yet, further, rest_there, rest_told}
@@ -39,3 +40,7 @@ split-requires-clause-apart g c = subst (Apart c.parts.left) (sym c.without-righ
 pub split-requires-clause-facts : goal.split-requires-clause-facts
 split-requires-clause-facts g c =
     c.requires.facts ∙ ap (facts_of c.args.problem.now.joins) (sym (part_and_rest c.args.set c.parts.left c.parts.invariant.within) ∙ ap (bit_or c.parts.left) (sym c.without-right.ensures))
+
+pub split-requires-clause-keys : goal.split-requires-clause-keys
+split-requires-clause-keys g c =
+    c.may_have_key-keys.ensures ∙ ap (may_have_key c.args.problem.now) (sym (part_and_rest c.args.set c.parts.left c.parts.invariant.within) ∙ ap (bit_or c.parts.left) (sym c.without-right.ensures))
