@@ -42,6 +42,14 @@ file = \"a.csv\"
 columns = [{name = \"id\", type = \"number\"}, {name = \"x\", type = \"number\"}]
 ";
 
+const LARGE: &str = "version = 1
+[tables.big]
+file = \"big.csv\"
+rows = 1000000
+columns = [{name = \"id\", type = \"number\"}, {name = \"ref\", type = \"number\"}]
+primary_key = [\"id\"]
+";
+
 /// Tables that don't stand in the order of their names.
 const TURNED: &str = "version = 1
 [tables.d]
@@ -446,21 +454,40 @@ const COUNTS: &[Row] = &[
     },
 ];
 
-/// Plans of nested loops. No data file is read: the first row's file of b has no header.
+/// Plans by all methods. No data file is read: the first row's file of b has no header.
 const PLANS: &[Row] = &[
+    // both orders cost 3550, and the lesser left set goes first
     Row {
         name: "two_left_joins",
         statement: "SELECT a.id, b.id, c.z FROM a LEFT JOIN b ON a.id = b.aid LEFT JOIN c ON b.id = c.bid",
         file: "b.csv",
         text: "no header",
         status: 0,
-        out: "Nest Left rows=1000 cost=111110
+        out: "HashRight Left rows=1000 cost=3550
   on: a.id = b.aid
   Scan a rows=100 cost=100
-  Nest Left rows=1000 cost=11010
+  Hash Left rows=1000 cost=2050
     on: b.id = c.bid
     Scan b rows=1000 cost=1000
     Scan c rows=10 cost=10
+",
+        err: "",
+    },
+    // the other order costs 3190
+    Row {
+        name: "two_left_joins_of_few",
+        statement: "SELECT a.id, b.id, c.z FROM a LEFT JOIN b ON a.id = b.aid LEFT JOIN c ON b.id = c.bid WHERE a.x = 10",
+        file: "",
+        text: "",
+        status: 0,
+        out: "Hash Left rows=100 cost=2290
+  on: b.id = c.bid
+  HashRight Left rows=100 cost=2140
+    on: a.id = b.aid
+    Scan a rows=10 cost=100
+      filter: a.x = 10
+    Scan b rows=1000 cost=1000
+  Scan c rows=10 cost=10
 ",
         err: "",
     },
@@ -470,10 +497,24 @@ const PLANS: &[Row] = &[
         file: "",
         text: "",
         status: 0,
-        out: "Nest Left rows=1000 cost=101100
+        out: "HashRight Left rows=1000 cost=2500
   on: a.id = b.aid
   Scan a rows=100 cost=100
   Scan b rows=1000 cost=1000
+",
+        err: "",
+    },
+    // a sort of both sides costs less than a table of a million rows in sixteen parts
+    Row {
+        name: "two_large_tables",
+        statement: "SELECT p.id, q.id FROM big p JOIN big q ON p.id = q.ref",
+        file: "K",
+        text: LARGE,
+        status: 0,
+        out: "Merge Inner rows=1000000 cost=44000000
+  on: p.id = q.ref
+  Scan p rows=1000000 cost=1000000
+  Scan q rows=1000000 cost=1000000
 ",
         err: "",
     },
@@ -496,12 +537,12 @@ const PLANS: &[Row] = &[
         file: "",
         text: "",
         status: 0,
-        out: "Nest Inner rows=1000 cost=102100
+        out: "Hash Inner rows=1000 cost=3500
   on: s.aid = a.id
-  Scan a rows=100 cost=100
   Sub s rows=1000 cost=2000
     Distinct
     Scan b rows=1000 cost=1000
+  Scan a rows=100 cost=100
 ",
         err: "",
     },

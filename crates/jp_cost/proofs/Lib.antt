@@ -1,4 +1,5 @@
 pub mod CoreLaws
+pub mod CostLaws
 pub mod ItemLaws
 pub mod PickLaws
 pub mod RangeLaws

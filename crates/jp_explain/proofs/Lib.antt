@@ -1,5 +1,4 @@
 pub mod BlockLaws
-pub mod CostLaws
 pub mod LineLaws
 pub mod NameLaws
 pub mod PlanLaws

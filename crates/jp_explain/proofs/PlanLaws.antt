@@ -16,7 +16,7 @@ use Rattle.jp_problem.specs.Made.{IsSearchable}
 use Rattle.jp_cost.specs.Costs.{cost}
 use Rattle.jp_cost.specs.Estimates.{estimate}
 use Rattle.jp_cost.specs.TreeCosts.{tree_cost}
-use Rattle.jp_explain.proofs.CostLaws.{tree_at_most}
+use Rattle.jp_cost.proofs.CostLaws.{tree_at_most}
 use Rattle.jp_tree.specs.PlanTrees.{tree_by, tree_within, tree_at, IsLegalAt}
 
 -- ---- as many steps as the number are enough

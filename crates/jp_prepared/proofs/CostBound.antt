@@ -1,4 +1,4 @@
--- What the items of a block cost at most: for the base leaves below it, sublinks apart, a product each, and for its leaves
+-- What the items of a block cost at most: for the base leaves below it, sublinks apart, a step each, and for its leaves
 -- their rows.
 use Rattle.std.proofs.Common.{◌≡◌, ◌∙◌, ap, sym, subst, ℕ, zero, suc, ◌+◌, ◌*◌, ◌^◌, ◌<◌, ◌≤◌, true, false, List, [], ◌∷◌, map, length, Option, Some, arith}
 use Rattle.std.specs.Prelude.{slice_get, sum_by}
@@ -27,20 +27,20 @@ use Rattle.jp_problem.specs.declared.types.Item.{Item}
 use Rattle.jp_problem.specs.InnerBlocks.{side_block}
 use Rattle.jp_problem.specs.Made.{HasStatedRows, cost_of}
 use Rattle.jp_problem.specs.Problems.{items_of}
-use Rattle.jp_problem.specs.Trees.{Tree, IsLegalTree}
+use Rattle.jp_problem.specs.declared.types.Problem.{Problem}
+use Rattle.jp_problem.specs.Trees.{Tree, Scan, Join, IsLegalTree}
 use Rattle.jp_conditions.proofs.Numbers.{from_place}
 use Rattle.jp_cost.specs.TreeCosts.{tree_cost}
+use Rattle.jp_cost.proofs.CostLaws.{items_and_steps}
 use Rattle.jp_cost.proofs.RangeLaws.{rounds_range}
 use Rattle.jp_tree.specs.declared.pool.PlanNode.{PlanNode}
 use Rattle.jp_tree.specs.declared.prepared.Block.{Block}
 use Rattle.jp_tree.specs.Pools.{IsTreeOf}
 use Rattle.jp_tree.proofs.PoolLaws.{same_tree}
-use Rattle.jp_search.specs.TreeOrder.{OnlyNests}
 use Rattle.jp_prepared.specs.Planned.{IsInner, IsItem, IsBlockFrom, rows_of, table_item, select_item, full_item}
 use Rattle.jp_prepared.specs.Searched.{AreMadeBehind}
 use Rattle.jp_prepared.specs.Sources.{Source, items_of_block, of_item}
 use Rattle.jp_prepared.proofs.Nested.{nested, nested_in, nested_base, nested_sub, nested_join, nested_query, nested_side, items_give}
-use Rattle.jp_prepared.proofs.TreeSums.{cost_most, some_item}
 
 -- by the numbers of base leaves and of all leaves
 abbrev pub IsBelow : ℕ → ℕ → ℕ → Type 0
@@ -54,6 +54,11 @@ leaves_below t = length (nested true t)
 
 pub as_written : (leaf : JoinTree) (x : JoinTreeLayer) (t : JoinTree) → out-JoinTree leaf ≡ x → roll-JoinTree x ≡ t → leaf ≡ t
 as_written leaf x t e rolls = sym (roll-out-JoinTree leaf) ∙ ap roll-JoinTree e ∙ rolls
+
+-- a legal tree scans some item
+some_item : (problem : Problem) (t : Tree) → IsLegalTree problem t → 1 ≤ length problem.items
+some_item problem (Scan i) legal = omega (arith, legal)
+some_item problem (Join m k a b) legal = some_item problem a legal.2
 
 module _ (catalog : Catalog) (sound : IsSound catalog) (sources : List Source) (block_at : ℕ → Option Block) (nodes : List PlanNode) where
   record Bounded (leaf : JoinTree) (item : Item) : Type 0 where
@@ -93,8 +98,7 @@ module _ (catalog : Catalog) (sound : IsSound catalog) (sources : List Source) (
       let range = λ (set : ℕ). rounds_range block.problem stated (suc (length block.problem.joins)) set in
       let same = same_tree nodes block.plan from.plan.tree tree from.plan.is is in
       let legal = subst (λ t. IsLegalTree block.problem t) same from.plan.plan.legal in
-      let nests = subst OnlyNests same from.plan.nests in
-      let most = cost_most block.problem (λ set. (range set).1) tree legal nests in
+      let most = items_and_steps block.problem (λ set. (range set).1) tree legal in
       let some = some_item block.problem tree legal in
       let sum = sum_below number (items_of_block query) block.problem.items from.items each in
       let bases = ap length (nested_query false query ∙ items_give false (out-Query query).tree) in

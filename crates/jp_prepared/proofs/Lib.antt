@@ -33,7 +33,6 @@ pub mod ScopeParts
 pub mod SearchLaws
 pub mod SourcePlaces
 pub mod SublinkParts
-pub mod TreeSums
 pub mod TypedParts
 pub mod WholeLaws
 pub mod Zips

@@ -21,7 +21,7 @@ use Rattle.jp_tree.specs.declared.pool.PlanNode.{PlanNode}
 use Rattle.jp_tree.specs.declared.prepared.Block.{Block}
 use Rattle.jp_tree.specs.declared.prepared.Prepared.{Prepared}
 use Rattle.jp_tree.specs.Pools.{IsTreeOf}
-use Rattle.jp_search.specs.TreeOrder.{ComesBefore, OnlyNests}
+use Rattle.jp_search.specs.TreeOrder.{ComesBefore}
 use Rattle.jp_prepared.specs.Items.{distinct_of}
 use Rattle.jp_prepared.specs.Names.{names_of}
 use Rattle.jp_prepared.specs.Sources.{Source, AreSources, IsSourceAt, of_item}
@@ -66,13 +66,12 @@ module _ (catalog : Catalog) (sources : List Source) (block_at : ℕ → Option 
     full : (kind : JoinKind) (left right : JoinTree) (on : List Expr) (l r : ℕ) (lb rb : Block) (lt rt : Tree) → out-JoinTree leaf ≡ JoinTree-F.Join kind left right on
         → IsInner number (side_block left) l lb lt → IsInner number (side_block right) r rb rt → item ≡ full_item leaf on l r lb rb lt rt → IsItem number leaf item
 
-  -- The plan is the first of the legal trees of all items; so far trees of nested loops alone are looked at.
+  -- the plan is the first of the legal trees of all items
   pub record HasFirstPlan (block : Block) : Type 0 where
     pub tree : Tree
     pub is : IsTreeOf nodes block.plan tree
     pub plan : IsPlan block.problem tree
-    pub nests : OnlyNests tree
-    pub first : (other : Tree) → IsPlan block.problem other → OnlyNests other → ¬ ComesBefore block.problem other tree
+    pub first : (other : Tree) → IsPlan block.problem other → ¬ ComesBefore block.problem other tree
 
   pub record IsBlockFrom (number : ℕ) (source : Source) (block : Block) : Type 0 where
     pub items : AllZip (IsItem number) (Rattle.jp_prepared.specs.Sources.items_of_block source.query) block.problem.items

@@ -9,6 +9,7 @@ use Rattle.jp_problem.specs.declared.types.Problem.{Problem}
 use Rattle.jp_problem.specs.Made.{IsSearchable}
 use Rattle.jp_problem.specs.Trees.{Tree, Scan, Join, set_of, IsLegalTree}
 use Rattle.jp_cost.specs.Estimates.{estimate}
+use Rattle.jp_cost.proofs.CostLaws.{rows_at_most, tree_at_most}
 use Rattle.jp_tree.specs.declared.pool.PlanNode.{PlanNode}
 use Rattle.jp_tree.specs.declared.pool.PlanNode.TheVariants as node
 use Rattle.jp_tree.specs.Pools.{IsTreeOf, HasChildrenBelow}
@@ -21,8 +22,7 @@ use Rattle.jp_search.specs.Ready.{IsReady, IsTold}
 use Rattle.jp_search.specs.Splits.{IsLeastAbove, scanned}
 use Rattle.jp_search.specs.Tables.{entry_at}
 use Rattle.jp_cost.specs.TreeCosts.{tree_cost}
-use Rattle.jp_search.specs.TreeOrder.{ComesBefore, IsFirst, OnlyNests}
-use Rattle.jp_search.proofs.CostLaws.{tree_most, rows_most}
+use Rattle.jp_search.specs.TreeOrder.{ComesBefore, IsFirst}
 use Rattle.jp_search.proofs.FirstLaws.{no_tree, first_tree}
 use Rattle.jp_search.proofs.NumberLaws.{of_one}
 use Rattle.jp_search.proofs.PartLaws.{one_not_two}
@@ -82,13 +82,13 @@ module _ (problem : Problem) (nodes : List PlanNode) (entries : List (Option Fou
 
   -- the scan is the only tree of one item
   scan_tree : (i : ℕ) → i < length problem.items → set ≡ 2 ^ i → IsFirst problem set (Scan i)
-  scan_tree i low is = record { legal = low; nests = tt; covers = sym is; first = first }
+  scan_tree i low is = record { legal = low; covers = sym is; first = first }
     where
-      first : (other : Tree) → IsLegalTree problem other → OnlyNests other → set_of other ≡ set → ¬ ComesBefore problem other (Scan i)
-      first (Scan k) legal nests covers before =
+      first : (other : Tree) → IsLegalTree problem other → set_of other ≡ set → ¬ ComesBefore problem other (Scan i)
+      first (Scan k) legal covers before =
           let same : k ≡ i = of_one i k (subst (λ s. Has s k) (covers ∙ is) (bit_at-pow_same k)) in
           omega (arith, before, ap (λ n. tree_cost problem (Scan n)) same)
-      first (Join m l a b) legal nests covers before =
+      first (Join m l a b) legal covers before =
           let here = tree_item problem a legal.2 in
           let there = tree_item problem b legal.3 in
           one_not_two i (set_of a) (set_of b) here.0 there.0 (λ n h. of_one i n (subst (λ s. Has s n) (covers ∙ is) h)) legal.0.step.apart here.1 there.1
@@ -118,7 +118,7 @@ ready problem nodes entries set ok size there some knows = record { few = ok.few
 
     told : (part : ℕ) → part < set → IsTold problem entries part
     told part below = record {
-      cost = λ found e. let known = known_at part found below e in subst (λ n. n ≤ 2 ^ 126) (sym known.3) (tree_most problem ok.estimable ok.few ok.costs known.0 known.2.legal known.2.nests);
-      rows = λ found e. let known = known_at part found below e in subst (λ n. n ≤ 2 ^ 60) (sym known.4) (rows_most problem ok.estimable part);
+      cost = λ found e. let known = known_at part found below e in subst (λ n. n ≤ 2 ^ 126) (sym known.3) (tree_at_most problem ok known.0 known.2.legal);
+      rows = λ found e. let known = known_at part found below e in subst (λ n. n ≤ 2 ^ 60) (sym known.4) (rows_at_most problem ok.estimable part);
       facts = λ found e. (known_at part found below e).5;
     }

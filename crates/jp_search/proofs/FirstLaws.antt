@@ -5,8 +5,8 @@ use Rattle.jp_base.specs.Sets.{Has, Within}
 use Rattle.jp_base.proofs.MaskAlgebra.{in_left}
 use Rattle.jp_problem.specs.declared.types.Problem.{Problem}
 use Rattle.jp_problem.specs.declared.types.Method.{Method}
-use Rattle.jp_problem.specs.declared.types.Method.TheVariants.{Nest}
 use Rattle.jp_problem.specs.declared.types.Step.{Step}
+use Rattle.jp_problem.specs.Keys.{IsAllowed}
 use Rattle.jp_problem.specs.Legal.{IsLegalStep}
 use Rattle.jp_problem.specs.LegalTests.{step_of}
 use Rattle.jp_problem.specs.Sets.{without}
@@ -18,14 +18,15 @@ use Rattle.jp_tree.specs.declared.pool.PlanNode.{PlanNode}
 use Rattle.jp_search.specs.declared.table.Choice.{Choice}
 use Rattle.jp_search.specs.declared.table.Found.{Found}
 use Rattle.jp_search.specs.Entries.{IsEntry, Knows}
-use Rattle.jp_search.specs.Splits.{IsPartAbove, IsLeastAbove, at_part, stepped}
+use Rattle.jp_search.specs.Splits.{IsPartAbove, IsLeastAbove, at_part, method_of, stepped}
 use Rattle.jp_search.specs.Tables.{entry_at}
 use Rattle.jp_cost.specs.TreeCosts.{tree_cost}
 use Rattle.std.proofs.lemmas.Bool.{cases_lt}
-use Rattle.jp_search.specs.TreeOrder.{ComesBefore, Then, IsFirst, OnlyNests}
+use Rattle.jp_search.specs.TreeOrder.{ComesBefore, Then, IsFirst, rank}
+use Rattle.jp_search.proofs.MethodLaws.{method_allowed, method_first}
 use Rattle.jp_search.proofs.PartLaws.{part_and_rest, rest_is, part_below, other_below, positive, rest_below}
 use Rattle.jp_search.proofs.SplitLaws.{IsOf, made_of, all_there}
-use Rattle.jp_search.proofs.TreeLaws.{IsTreeBy, tree_item}
+use Rattle.jp_search.proofs.TreeLaws.{IsTreeBy, one_kind, tree_item}
 
 -- the left set of the root; of a scan none
 abbrev left_of : Tree → ℕ
@@ -35,10 +36,9 @@ left_of (Join method kind left right) = set_of left
 none_some : {X : Type 0} (x : X) → None ≡ Some x → ⊥
 none_some x e = cc
 
--- a legal tree of the set by Nest alone
+-- a legal tree of the set
 record IsCandidate (problem : Problem) (set : ℕ) (t : Tree) : Type 0 where
   pub legal : IsLegalTree problem t
-  pub nests : OnlyNests t
   pub covers : set_of t ≡ set
 
 pub by_cost : (problem : Problem) (a b : Tree) → tree_cost problem a < tree_cost problem b → ComesBefore problem a b
@@ -63,34 +63,32 @@ left_at_most problem (Join m k a b) (Scan i) less same = absurd (omega (arith, l
 left_at_most problem (Scan i) (Join n l c d) less same = absurd (omega (arith, less, same))
 left_at_most problem (Scan i) (Scan k) less same = absurd (omega (arith, less, same))
 
-costs : (c d a b s r : ℕ) → s ≡ r → c + d + s < a + b + r → ¬ (c < a) → ¬ (d < b) → ⊥
-costs c d a b s r same less not_c not_d = elim (cases_lt c a) [ inl p ↦ not_c p | inr p ↦ elim (cases_lt d b) [ inl q ↦ not_d q | inr q ↦ omega (arith, same, less, p, q) ] ]
+costs : (c d a b : ℕ) → ¬ (c < a) → ¬ (d < b) → a + b ≤ c + d
+costs c d a b not_c not_d = elim (cases_lt c a) [ inl p ↦ absurd (not_c p) | inr p ↦ elim (cases_lt d b) [ inl q ↦ absurd (not_d q) | inr q ↦ omega (arith, p, q) ] ]
 
--- a step of the first trees of two sets is before each step of trees of these sets
-module _ (problem : Problem) (kind : Step) (p q : ℕ) (a b : Tree) (first_a : IsFirst problem p a) (first_b : IsFirst problem q b) where
-  none_before : (l : Step) (c d : Tree) → IsCandidate problem p c → IsCandidate problem q d → ¬ ComesBefore problem (Join Nest l c d) (Join Nest kind a b)
-  none_before l c d on_c on_d before = elim before [
-    | inl cheaper ↦ costs (tree_cost problem c) (tree_cost problem d) (tree_cost problem a) (tree_cost problem b) step step' same cheaper not_c not_d
+-- A step of the first trees of two sets, by the first of the methods that it allows, is before each step of trees of these
+-- sets.
+module _ (problem : Problem) (m : Method) (kind : Step) (p q : ℕ) (a b : Tree) (first_a : IsFirst problem p a) (first_b : IsFirst problem q b)
+    (least : (n : Method) → IsAllowed problem p q kind n → Then (cost m (estimate problem p) (estimate problem q)) (cost n (estimate problem p) (estimate problem q)) (rank m ≤ rank n)) where
+  none_before : (n : Method) (l : Step) (c d : Tree) → IsAllowed problem p q kind n → IsCandidate problem p c → IsCandidate problem q d → ¬ ComesBefore problem (Join n l c d) (Join m kind a b)
+  none_before n l c d allowed on_c on_d before = elim before [
+    | inl cheaper ↦ elim (least n allowed) [ inl less ↦ omega (arith, cheaper, parts, here, there, less) | inr tie ↦ omega (arith, cheaper, parts, here, there, tie.0) ]
     | inr (same_cost, inl less) ↦ omega (arith, less, on_c.covers, first_a.covers)
-    | inr (same_cost, inr (same_left, inl less)) ↦ omega (arith, less)
-    | inr (same_cost, inr (same_left, inr (same_method, inl left_before))) ↦ first_a.first c on_c.legal on_c.nests on_c.covers left_before
-    | inr (same_cost, inr (same_left, inr (same_method, inr (same_tree, right_before)))) ↦ first_b.first d on_d.legal on_d.nests on_d.covers right_before
+    | inr (same_cost, inr (same_left, inl lower)) ↦ elim (least n allowed) [ inl less ↦ omega (arith, same_cost, parts, here, there, less) | inr tie ↦ omega (arith, lower, tie.1) ]
+    | inr (same_cost, inr (same_left, inr (same_method, inl left_before))) ↦ first_a.first c on_c.legal on_c.covers left_before
+    | inr (same_cost, inr (same_left, inr (same_method, inr (same_tree, right_before)))) ↦ first_b.first d on_d.legal on_d.covers right_before
   ]
     where
-      step : ℕ
-      step = cost Nest (estimate problem (set_of c)) (estimate problem (set_of d))
+      there : cost n (estimate problem (set_of c)) (estimate problem (set_of d)) ≡ cost n (estimate problem p) (estimate problem q)
+      there = ap₂ (λ x y. cost n (estimate problem x) (estimate problem y)) on_c.covers on_d.covers
 
-      step' : ℕ
-      step' = cost Nest (estimate problem (set_of a)) (estimate problem (set_of b))
+      here : cost m (estimate problem (set_of a)) (estimate problem (set_of b)) ≡ cost m (estimate problem p) (estimate problem q)
+      here = ap₂ (λ x y. cost m (estimate problem x) (estimate problem y)) first_a.covers first_b.covers
 
-      same : step ≡ step'
-      same = ap₂ (λ x y. cost Nest (estimate problem x) (estimate problem y)) (on_c.covers ∙ sym first_a.covers) (on_d.covers ∙ sym first_b.covers)
-
-      not_c : ¬ (tree_cost problem c < tree_cost problem a)
-      not_c less = first_a.first c on_c.legal on_c.nests on_c.covers (by_cost problem c a less)
-
-      not_d : ¬ (tree_cost problem d < tree_cost problem b)
-      not_d less = first_b.first d on_d.legal on_d.nests on_d.covers (by_cost problem d b less)
+      parts : tree_cost problem a + tree_cost problem b ≤ tree_cost problem c + tree_cost problem d
+      parts = costs (tree_cost problem c) (tree_cost problem d) (tree_cost problem a) (tree_cost problem b)
+          (λ less. first_a.first c on_c.legal on_c.covers (by_cost problem c a less))
+          (λ less. first_b.first d on_d.legal on_d.covers (by_cost problem d b less))
 
 -- ---- the splits of a set, whose parts are known
 
@@ -111,15 +109,19 @@ module _ (problem : Problem) (nodes : List PlanNode) (entries : List (Option Fou
 
   best_at : (p : ℕ) (c : Choice) → IsPartAbove set 0 p → at_part problem entries set p ≡ Some c → (t : Tree) × IsBestAt p c t
   best_at p c part e = (
-    Join Nest kind a b,
+    Join m kind a b,
     record {
-      by = subst (λ (d : Choice). IsTreeBy nodes d.node (Join Nest kind a b)) (sym split.is) (a, b, left.1, right.1, refl);
+      by = subst (λ (d : Choice). IsTreeBy nodes d.node (Join m kind a b)) (sym split.is) (a, b, left.1, right.1, refl);
       candidate = record {
-        legal = (subst (λ x. IsLegalStep problem x (set_of b) kind) (sym first_a.covers) (subst (λ y. IsLegalStep problem p y kind) (sym first_b.covers) step), tt, first_a.legal, first_b.legal);
-        nests = (refl, first_a.nests, first_b.nests);
+        legal = (
+          subst₂ (λ x y. IsLegalStep problem x y kind) (sym first_a.covers) (sym first_b.covers) step,
+          subst₂ (λ x y. IsAllowed problem x y kind m) (sym first_a.covers) (sym first_b.covers) (method_allowed problem p q kind split.left_tree.rows split.right_tree.rows),
+          first_a.legal,
+          first_b.legal,
+        );
         covers = ap₂ bit_or first_a.covers first_b.covers ∙ part_and_rest set p part.within;
       };
-      cost = ap (λ (d : Choice). d.cost) split.is ∙ ap₂ (λ x y. x + y) (ap₂ (λ x y. x + y) left.3 right.3) (ap₂ (cost Nest) (left.4 ∙ ap (estimate problem) (sym first_a.covers)) (right.4 ∙ ap (estimate problem) (sym first_b.covers)));
+      cost = ap (λ (d : Choice). d.cost) split.is ∙ ap₂ (λ x y. x + y) (ap₂ (λ x y. x + y) left.3 right.3) (ap₂ (cost m) (left.4 ∙ ap (estimate problem) (sym first_a.covers)) (right.4 ∙ ap (estimate problem) (sym first_b.covers)));
       at = first_a.covers;
       first = first;
     },
@@ -155,13 +157,22 @@ module _ (problem : Problem) (nodes : List PlanNode) (entries : List (Option Fou
       first_b : IsFirst problem q b
       first_b = right.2
 
-      first : (other : Tree) → IsCandidate problem set other → left_of other ≡ p → ¬ ComesBefore problem other (Join Nest kind a b)
+      m : Method
+      m = method_of problem p q kind split.left_tree.rows split.right_tree.rows
+
+      least : (n : Method) → IsAllowed problem p q kind n → Then (cost m (estimate problem p) (estimate problem q)) (cost n (estimate problem p) (estimate problem q)) (rank m ≤ rank n)
+      least n allowed = subst₂ (λ x y. Then (cost m x y) (cost n x y) (rank m ≤ rank n)) left.4 right.4 (method_first problem p q kind split.left_tree.rows split.right_tree.rows n allowed)
+
+      first : (other : Tree) → IsCandidate problem set other → left_of other ≡ p → ¬ ComesBefore problem other (Join m kind a b)
       first (Scan i) is at before = omega (arith, at, part.above)
-      first (Join m l c d) is at before =
-          none_before problem kind p q a b first_a first_b l c d
-          (record { legal = is.legal.2; nests = is.nests.1; covers = at })
-          (record { legal = is.legal.3; nests = is.nests.2; covers = rest_is (set_of c) (set_of d) is.legal.0.step.apart ∙ ap₂ without is.covers at })
-          (subst (λ n. ComesBefore problem (Join n l c d) (Join Nest kind a b)) is.nests.0 before)
+      first (Join n l c d) is at before =
+          let rest : set_of d ≡ q = rest_is (set_of c) (set_of d) is.legal.0.step.apart ∙ ap₂ without is.covers at in
+          let same : l ≡ kind = one_kind problem (set_of c) (set_of d) p q l kind at rest is.legal.0 step in
+          none_before problem m kind p q a b first_a first_b least n l c d
+          (subst (λ k. IsAllowed problem p q k n) same (subst₂ (λ x y. IsAllowed problem x y l n) at rest is.legal.1))
+          (record { legal = is.legal.2; covers = at })
+          (record { legal = is.legal.3; covers = rest })
+          before
 
   -- each tree that is no scan comes from a split
   split_by : (m : Method) (l : Step) (a b : Tree) → IsCandidate problem set (Join m l a b) → IsPartAbove set 0 (set_of a) × ((c : Choice) × (at_part problem entries set (set_of a) ≡ Some c))
@@ -196,21 +207,21 @@ module _ (problem : Problem) (nodes : List PlanNode) (entries : List (Option Fou
       computed = (step_says problem (set_of a) rest l).1 (subst (λ r. IsLegalStep problem (set_of a) r l) rest_same step)
 
       found : (x y : Option Found) → entry_at entries (set_of a) ≡ x → entry_at entries rest ≡ y → (c : Choice) × (at_part problem entries set (set_of a) ≡ Some c)
-      found (Some f) (Some g) is_x is_y = (stepped l f g, sym (all_there problem entries (set_of a) rest l f g (stepped l f g) computed is_x is_y refl))
-      found (Some f) None is_x is_y = absurd (unknown_at rest below_b is_y b is.legal.3 is.nests.2 rest_same)
-      found None y is_x is_y = absurd (unknown_at (set_of a) part.below is_x a is.legal.2 is.nests.1 refl)
+      found (Some f) (Some g) is_x is_y = let c = stepped (method_of problem (set_of a) rest l f.rows g.rows) l f g in (c, sym (all_there problem entries (set_of a) rest l f g c computed is_x is_y refl))
+      found (Some f) None is_x is_y = absurd (unknown_at rest below_b is_y b is.legal.3 rest_same)
+      found None y is_x is_y = absurd (unknown_at (set_of a) part.below is_x a is.legal.2 refl)
 
   -- of a set of several items
   module _ (several : (i : ℕ) → ¬ (set ≡ 2 ^ i)) where
     pub no_tree : IsLeastAbove problem entries set 0 None → IsEntry problem nodes set None
-    no_tree none (Scan i) legal nests covers = several i (sym covers)
-    no_tree none (Join m l a b) legal nests covers =
-        let split = split_by m l a b (record { legal = legal; nests = nests; covers = covers }) in
+    no_tree none (Scan i) legal covers = several i (sym covers)
+    no_tree none (Join m l a b) legal covers =
+        let split = split_by m l a b (record { legal = legal; covers = covers }) in
         none_some split.1.0 (sym (none (set_of a) split.0) ∙ split.1.1)
 
     -- the best split gives the first tree
     pub first_tree : (c : Choice) → IsLeastAbove problem entries set 0 (Some c) → (t : Tree) × IsTreeBy nodes c.node t × IsFirst problem set t × (c.cost ≡ tree_cost problem t)
-    first_tree c (p, part, e, least) = (t, best.by, record { legal = best.candidate.legal; nests = best.candidate.nests; covers = best.candidate.covers; first = first }, best.cost)
+    first_tree c (p, part, e, least) = (t, best.by, record { legal = best.candidate.legal; covers = best.candidate.covers; first = first }, best.cost)
       where
         t : Tree
         t = (best_at p c part e).0
@@ -233,10 +244,10 @@ module _ (problem : Problem) (nodes : List PlanNode) (entries : List (Option Fou
                   best.first other is (omega (arith, left_at_most problem other t before same, before_q, at, best.at)) before
             ]
 
-        first : (other : Tree) → IsLegalTree problem other → OnlyNests other → set_of other ≡ set → ¬ ComesBefore problem other t
-        first (Scan i) legal nests covers before = several i (sym covers)
-        first (Join m l a b) legal nests covers before =
-            let is : IsCandidate problem set (Join m l a b) = record { legal = legal; nests = nests; covers = covers } in
+        first : (other : Tree) → IsLegalTree problem other → set_of other ≡ set → ¬ ComesBefore problem other t
+        first (Scan i) legal covers before = several i (sym covers)
+        first (Join m l a b) legal covers before =
+            let is : IsCandidate problem set (Join m l a b) = record { legal = legal; covers = covers } in
             let split = split_by m l a b is in
             let found = best_at (set_of a) split.1.0 split.0 split.1.1 in
             against (Join m l a b) (set_of a) split.1.0 found.0 is refl found.1 (least (set_of a) split.1.0 split.0 split.1.1) before

@@ -1,8 +1,8 @@
-pub mod CostLaws
 pub mod CountLaws
 pub mod EntryLaws
 pub mod FirstLaws
 pub mod JoinLaws
+pub mod MethodLaws
 pub mod NumberLaws
 pub mod OrderLaws
 pub mod PartLaws

@@ -1,5 +1,5 @@
 -- The order of trees is strict and transitive, and of two legal trees of one set that differ one comes before the other.
-use Rattle.std.proofs.Common.{◌≡◌, ◌∙◌, sym, ap, ap₂, subst, refl, ℕ, ◌^◌, ◌⊎◌, inl, inr, arith, Some}
+use Rattle.std.proofs.Common.{◌≡◌, ◌∙◌, sym, ap, ap₂, subst, refl, ℕ, ◌^◌, ◌⊎◌, inl, inr, arith}
 use Rattle.std.proofs.lemmas.Bool.{cases_eq, cases_lt}
 use Rattle.std.proofs.lemmas.Nat.Bits.{bit_at-pow_same}
 use Rattle.jp_base.specs.Sets.{Has}
@@ -7,17 +7,14 @@ use Rattle.jp_problem.specs.declared.types.Method.{Method}
 use Rattle.jp_problem.specs.declared.types.Method.TheVariants.{Nest, Hash, HashRight, Merge}
 use Rattle.jp_problem.specs.declared.types.Problem.{Problem}
 use Rattle.jp_problem.specs.declared.types.Step.{Step}
-use Rattle.jp_problem.specs.Legal.{IsLegalStep}
-use Rattle.jp_problem.specs.LegalTests.{step_of}
 use Rattle.jp_problem.specs.Sets.{without}
 use Rattle.jp_problem.specs.Trees.{Tree, Scan, Join, set_of, IsLegalTree}
-use Rattle.jp_problem.proofs.LegalLaws.{step_says}
 use Rattle.jp_cost.specs.TreeCosts.{tree_cost}
 use Rattle.jp_search.specs.TreeOrder.{ComesBefore, Then, rank}
 use Rattle.jp_search.proofs.FirstLaws.{at_most, by_cost}
 use Rattle.jp_search.proofs.NumberLaws.{of_one}
 use Rattle.jp_search.proofs.PartLaws.{one_not_two, rest_is}
-use Rattle.jp_search.proofs.TreeLaws.{tree_item}
+use Rattle.jp_search.proofs.TreeLaws.{one_kind, tree_item}
 
 -- ---- by what tells first
 
@@ -111,14 +108,6 @@ same_rank Merge Nest e = absurd (omega (arith, e))
 same_rank Merge Hash e = absurd (omega (arith, e))
 same_rank Merge HashRight e = absurd (omega (arith, e))
 same_rank Merge Merge e = refl
-
--- a legal step of two sets has one kind
-one_kind : (problem : Problem) (p q r s : ℕ) (k l : Step) → p ≡ r → q ≡ s → IsLegalStep problem p q k → IsLegalStep problem r s l → k ≡ l
-one_kind problem p q r s k l same same' on_k on_l =
-    some_is k l (sym ((step_says problem p q k).1 on_k) ∙ ap₂ (step_of problem.joins) same same' ∙ (step_says problem r s l).1 on_l)
-  where
-    some_is : (k l : Step) → Some k ≡ Some l → k ≡ l
-    some_is k l e = cc
 
 scan_or_join : (problem : Problem) (i : ℕ) (m : Method) (k : Step) (a b : Tree) → IsLegalTree problem (Join m k a b) → ¬ (2 ^ i ≡ set_of (Join m k a b))
 scan_or_join problem i m k a b legal same =

@@ -12,7 +12,7 @@ use Rattle.jp_problem.proofs.LegalLaws.{joinable_says, step_says}
 use Rattle.jp_search.specs.declared.table.Choice.{Choice}
 use Rattle.jp_search.specs.declared.table.Found.{Found}
 use Rattle.jp_search.specs.Ready.{IsReady, IsTold}
-use Rattle.jp_search.specs.Splits.{stepped, joined, split_of, at_part, IsPartAbove, IsLeastAbove, lesser}
+use Rattle.jp_search.specs.Splits.{method_of, stepped, joined, split_of, at_part, IsPartAbove, IsLeastAbove, lesser}
 use Rattle.jp_search.specs.Tables.{entry_at}
 use Rattle.jp_search.specs.TreeOrder.{Then}
 use Rattle.jp_search.proofs.PartLaws.{part_and_rest, rest_below}
@@ -21,7 +21,7 @@ none_some : {X : Type 0} (x : X) → None ≡ Some x → ⊥
 none_some x e = cc
 
 module _ (problem : Problem) (entries : List (Option Found)) (left right : ℕ) where
-  pub all_there : (kind : Step) (f g : Found) (c : Choice) → step_of problem.joins left right ≡ Some kind → entry_at entries left ≡ Some f → entry_at entries right ≡ Some g → c ≡ stepped kind f g → Some c ≡ split_of problem entries left right
+  pub all_there : (kind : Step) (f g : Found) (c : Choice) → step_of problem.joins left right ≡ Some kind → entry_at entries left ≡ Some f → entry_at entries right ≡ Some g → c ≡ stepped (method_of problem left right kind f.rows g.rows) kind f g → Some c ≡ split_of problem entries left right
   unfolding split_of
   all_there kind f g c a b d e = rw (a, b, d, e) refl
 
@@ -29,7 +29,7 @@ module _ (problem : Problem) (entries : List (Option Found)) (left right : ℕ) 
   unfolding split_of
   no_right e = rw e (go (step_of problem.joins left right) (entry_at entries left))
     where
-      go : (s : Option Step) (x : Option Found) → None ≡ joined s x None
+      go : (s : Option Step) (x : Option Found) → None ≡ joined problem left right s x None
       go (Some kind) (Some f) = refl
       go (Some kind) None = refl
       go None x = refl
@@ -38,7 +38,7 @@ module _ (problem : Problem) (entries : List (Option Found)) (left right : ℕ) 
   unfolding split_of
   no_left e = rw e (go (step_of problem.joins left right))
     where
-      go : (s : Option Step) → None ≡ joined s None (entry_at entries right)
+      go : (s : Option Step) → None ≡ joined problem left right s None (entry_at entries right)
       go (Some kind) = refl
       go None = refl
 
@@ -54,7 +54,7 @@ module _ (problem : Problem) (entries : List (Option Found)) (left right : ℕ) 
     pub legal : step_of problem.joins left right ≡ Some kind
     pub on_left : entry_at entries left ≡ Some left_tree
     pub on_right : entry_at entries right ≡ Some right_tree
-    pub is : c ≡ stepped kind left_tree right_tree
+    pub is : c ≡ stepped (method_of problem left right kind left_tree.rows right_tree.rows) kind left_tree right_tree
 
   pub made_of : (c : Choice) → split_of problem entries left right ≡ Some c → IsOf c
   unfolding split_of
@@ -63,8 +63,8 @@ module _ (problem : Problem) (entries : List (Option Found)) (left right : ℕ) 
       same : (a b : Choice) → Some a ≡ Some b → b ≡ a
       same a b e = cc
 
-      go : (s : Option Step) (x y : Option Found) → step_of problem.joins left right ≡ s → entry_at entries left ≡ x → entry_at entries right ≡ y → joined s x y ≡ Some c → IsOf c
-      go (Some kind) (Some f) (Some g) a b d e = record { kind = kind; left_tree = f; right_tree = g; legal = a; on_left = b; on_right = d; is = same (stepped kind f g) c e }
+      go : (s : Option Step) (x y : Option Found) → step_of problem.joins left right ≡ s → entry_at entries left ≡ x → entry_at entries right ≡ y → joined problem left right s x y ≡ Some c → IsOf c
+      go (Some kind) (Some f) (Some g) a b d e = record { kind = kind; left_tree = f; right_tree = g; legal = a; on_left = b; on_right = d; is = same (stepped (method_of problem left right kind f.rows g.rows) kind f g) c e }
       go (Some kind) (Some f) None a b d e = absurd (none_some c e)
       go (Some kind) None y a b d e = absurd (none_some c e)
       go None x y a b d e = absurd (none_some c e)
@@ -139,8 +139,9 @@ module _ (problem : Problem) (entries : List (Option Found)) (set : ℕ) where
               ]
             ]
 
-    pub further : (rest : ℕ) (least found after : Option Choice) → IsLeastAbove problem entries set left least → rest ≡ without set left → found ≡ split_of problem entries left rest → after ≡ lesser least found → IsLeastAbove problem entries set next after
-    further rest least found after known rest_is is e = subst (IsLeastAbove problem entries set next) (sym e) (one_more least found known (is ∙ ap (split_of problem entries left) rest_is))
+    pub further : (rest : ℕ) (least found after : Option Choice) → IsLeastAbove problem entries set left least → rest ≡ without set left → lesser least found ≡ lesser least (split_of problem entries left rest) → after ≡ lesser least found → IsLeastAbove problem entries set next after
+    further rest least found after known rest_is is e =
+        subst (IsLeastAbove problem entries set next) (sym (e ∙ is ∙ ap (λ r. lesser least (split_of problem entries left r)) rest_is)) (one_more least (at_part problem entries set left) known refl)
 
 -- a set that can't be joined by itself has no split
 pub no_split : (problem : Problem) (entries : List (Option Found)) (set : ℕ) → is_joinable problem.joins set ≡ false → IsLeastAbove problem entries set 0 None

@@ -21,9 +21,9 @@ use Rattle.jp_search.specs.Counts.{parts_of, parts_below}
 use Rattle.jp_tree.specs.Pools.{GrowsTo}
 use Rattle.jp_search.specs.Entries.{IsEntry, Knows}
 use Rattle.jp_search.specs.Tables.{entry_at}
-use Rattle.jp_search.specs.TreeOrder.{ComesBefore, OnlyNests}
+use Rattle.jp_search.specs.TreeOrder.{ComesBefore}
 use Rattle.jp_search.proofs.NumberLaws.{of_one}
-use Rattle.jp_search.proofs.TreeLaws.{tree_item, nested, nested_set, nested_nests, nested_legal}
+use Rattle.jp_search.proofs.TreeLaws.{tree_item}
 
 -- more nodes change no entry
 entry_stays : (problem : Problem) (nodes more : List PlanNode) (set : ℕ) (o : Option Found) → IsEntry problem nodes set o → IsEntry problem (nodes ++ more) set o
@@ -56,7 +56,7 @@ pub begun : (problem : Problem) (nodes : List PlanNode) (entries : List (Option 
 begun problem nodes entries empty = record { known = known }
   where
     none : IsEntry problem nodes 0 None
-    none t legal nests e = let item = tree_item problem t legal in empty_zero (set_of t) e item.0 item.1
+    none t legal e = let item = tree_item problem t legal in empty_zero (set_of t) e item.0 item.1
 
     known : (k : ℕ) → k < 1 → IsEntry problem nodes k (entry_at entries k)
     known k low = subst₂ (IsEntry problem nodes) zero_is (sym (empty k)) none
@@ -107,7 +107,7 @@ all_below problem count r few is e = omega (arith, e, one_shl count 64 (omega (a
 
 module _ (problem : Problem) (nodes : List PlanNode) (set : ℕ) (all : set ≡ items_of problem) where
   pub has_tree : (o : Option Found) → IsSearchable problem → IsEntry problem nodes set o → ¬ (o ≡ None)
-  has_tree None ok none e = none (nested ok.tree) (nested_legal problem ok.tree ok.plan.legal) (nested_nests ok.tree) (nested_set ok.tree ∙ ok.plan.whole ∙ sym all)
+  has_tree None ok none e = none ok.tree ok.plan.legal (ok.plan.whole ∙ sym all)
   has_tree (Some f) ok known e = some_not_none f e
     where
       some_not_none : (f : Found) → Some f ≡ None → ⊥
@@ -131,11 +131,11 @@ module _ (problem : Problem) (nodes : List PlanNode) (set : ℕ) (all : set ≡ 
     unfolding tree entry
     named = subst (λ k. IsTreeOf nodes k tree) (sym (is found.0 found.1)) entry.1
 
-    pub plan_is : (t : Tree) × IsTreeOf nodes id t × IsPlan problem t × OnlyNests t
+    pub plan_is : (t : Tree) × IsTreeOf nodes id t × IsPlan problem t
     unfolding tree entry
-    plan_is = (tree, named, record { legal = entry.2.legal; whole = entry.2.covers ∙ all }, entry.2.nests)
+    plan_is = (tree, named, record { legal = entry.2.legal; whole = entry.2.covers ∙ all })
 
-    pub none_before : (t other : Tree) → IsTreeOf nodes id t → IsPlan problem other → OnlyNests other → ¬ ComesBefore problem other t
+    pub none_before : (t other : Tree) → IsTreeOf nodes id t → IsPlan problem other → ¬ ComesBefore problem other t
     unfolding tree entry
-    none_before t other by plan nests before =
-        entry.2.first other plan.legal nests (plan.whole ∙ sym all) (subst (ComesBefore problem other) (same_tree nodes id t tree by named) before)
+    none_before t other by plan before =
+        entry.2.first other plan.legal (plan.whole ∙ sym all) (subst (ComesBefore problem other) (same_tree nodes id t tree by named) before)

@@ -9,11 +9,11 @@ use Rattle.jp_search.specs.declared.table.Found.{Found}
 use Rattle.jp_search.specs.Joins.{facts_of}
 use Rattle.jp_search.specs.Tables.{entry_at}
 use Rattle.jp_cost.specs.TreeCosts.{tree_cost}
-use Rattle.jp_search.specs.TreeOrder.{IsFirst, OnlyNests}
+use Rattle.jp_search.specs.TreeOrder.{IsFirst}
 
 -- nothing where the set has no legal tree, else its first one with its cost, the set's estimate, and what it says of the joins
 abbrev pub IsEntry : Problem → List PlanNode → ℕ → Option Found → Type 0
-IsEntry problem nodes set None = (tree : Tree) → IsLegalTree problem tree → OnlyNests tree → ¬ (set_of tree ≡ set)
+IsEntry problem nodes set None = (tree : Tree) → IsLegalTree problem tree → ¬ (set_of tree ≡ set)
 IsEntry problem nodes set (Some found) = (tree : Tree) × IsTreeOf nodes found.plan tree × IsFirst problem set tree × (found.cost ≡ tree_cost problem tree) × (found.rows ≡ estimate problem set) × (found.facts ≡ facts_of problem.joins set)
 
 -- the entries of all sets below this one as numbers are theirs

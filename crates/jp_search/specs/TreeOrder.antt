@@ -1,5 +1,5 @@
 -- The order of the trees of one set, of which the first legal one is the plan.
-use Rattle.std.specs.Prelude.{◌≡◌, ℕ, ◌<◌, ◌⊎◌, ⊤}
+use Rattle.std.specs.Prelude.{◌≡◌, ℕ, ◌<◌, ◌⊎◌}
 use Rattle.jp_problem.specs.declared.types.Problem.{Problem}
 use Rattle.jp_problem.specs.declared.types.Method.{Method}
 use Rattle.jp_problem.specs.declared.types.Method.TheVariants.{Nest, Hash, HashRight, Merge}
@@ -26,14 +26,8 @@ ComesBefore problem (Join m k a b) (Join n l c d) =
     (ComesBefore problem a c ⊎ ((a ≡ c) × ComesBefore problem b d))))
 ComesBefore problem a b = tree_cost problem a < tree_cost problem b
 
--- every step is done by Nest
-abbrev pub OnlyNests : Tree → Type 0
-OnlyNests (Scan i) = ⊤
-OnlyNests (Join method kind left right) = (method ≡ Nest) × OnlyNests left × OnlyNests right
-
 -- a legal tree of the set, which none comes before
 pub record IsFirst (problem : Problem) (set : ℕ) (tree : Tree) : Type 0 where
   pub legal : IsLegalTree problem tree
-  pub nests : OnlyNests tree
   pub covers : set_of tree ≡ set
-  pub first : (other : Tree) → IsLegalTree problem other → OnlyNests other → set_of other ≡ set → ¬ ComesBefore problem other tree
+  pub first : (other : Tree) → IsLegalTree problem other → set_of other ≡ set → ¬ ComesBefore problem other tree

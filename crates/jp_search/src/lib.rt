@@ -3,6 +3,7 @@
 
 mod joins;
 mod laws;
+mod methods;
 mod numbers;
 mod search;
 mod splits;

@@ -5,7 +5,7 @@ ghost use Rattle.jp_tree.specs.Pools.{GrowsTo, HasChildrenBelow, IsTreeOf};
 ghost use Rattle.jp_search.specs.Counts.{parts_below, parts_of};
 ghost use Rattle.jp_search.specs.Entries.{IsEntry, Knows};
 ghost use Rattle.jp_search.specs.Tables.{entry_at};
-ghost use Rattle.jp_search.specs.TreeOrder.{ComesBefore, OnlyNests};
+ghost use Rattle.jp_search.specs.TreeOrder.{ComesBefore};
 
 use crate::Steps;
 use crate::joins::facts_of;
@@ -21,9 +21,9 @@ use std::sync::ledger::Ledger;
 
 /// The first of the legal trees of all items, as a number in the pool. Trees are ordered by cost, then by the left set of
 /// the root as a number, then by method, then by the left tree, then by the right tree (PostgreSQL's
-/// `standard_join_search` also looks for the cheapest, by levels; the order here is this product's own). So far trees of
-/// nested loops alone are looked at. The memory that it takes is one entry and one node of the pool for each set of
-/// items, before the first counted step; a step is one split of a set into a left and a right part that is looked at.
+/// `standard_join_search` also looks for the cheapest, by levels; the order here is this product's own), and methods as
+/// Nest, Hash, HashRight, Merge. The memory that it takes is one entry and one node of the pool for each set of items,
+/// before the first counted step; a step is one split of a set into a left and a right part that is looked at.
 pub fn best<L: Ledger>(
     alloc: Global,
     problem: &Problem,
@@ -31,8 +31,8 @@ pub fn best<L: Ledger>(
     steps: &mut Steps<L>,
 ) -> Result<PlanId, Memory>
     requires { IsSearchable problem.now }
-    ensures plan { IfOk result (λ id. (tree : Tree) × IsTreeOf pool.new.nodes id tree × IsPlan problem.now tree × OnlyNests tree) }
-    ensures first { IfOk result (λ id. (tree other : Tree) → IsTreeOf pool.new.nodes id tree → IsPlan problem.now other → OnlyNests other → ¬ ComesBefore problem.now other tree) }
+    ensures plan { IfOk result (λ id. (tree : Tree) × IsTreeOf pool.new.nodes id tree × IsPlan problem.now tree) }
+    ensures first { IfOk result (λ id. (tree other : Tree) → IsTreeOf pool.new.nodes id tree → IsPlan problem.now other → ¬ ComesBefore problem.now other tree) }
     ensures kept { GrowsTo pool.old.nodes pool.new.nodes }
     // one node for a set, which all trees share
     ensures shared { length pool.new.nodes ≤ length pool.old.nodes + 2 ^ length problem.now.items }

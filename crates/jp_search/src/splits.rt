@@ -5,15 +5,15 @@ ghost use Rattle.jp_problem.specs.Made.{HasApartSets};
 ghost use Rattle.jp_search.specs.Counts.{parts_of};
 ghost use Rattle.jp_search.specs.Joins.{facts_of};
 ghost use Rattle.jp_search.specs.Ready.{IsReady, IsTold};
-ghost use Rattle.jp_search.specs.Splits.{IsLeastAbove, lesser, scanned, split_of, stepped};
+ghost use Rattle.jp_search.specs.Splits.{IsLeastAbove, lesser, may_have_key, scanned, split_of};
 
 use crate::Steps;
 use crate::joins::{Facts, kind_of};
-use crate::table::{Choice, Found, Table};
+use crate::methods::{may_have_key, step};
+use crate::table::{Choice, Table};
 use jp_base::{ItemNo, RelSet};
-use jp_cost::step_cost;
+use jp_problem::Problem;
 use jp_problem::sets::{is_empty, without};
-use jp_problem::{Method, Problem, Step};
 use jp_tree::PlanNode;
 use std::sync::ledger::Ledger;
 
@@ -80,13 +80,15 @@ fn least_split<L: Ledger>(
     ensures least { IsLeastAbove problem.now table.now set 0 result }
     ensures count { steps.new ≤ steps.old + parts_of (length problem.now.items) set }
 {
+    let keys = may_have_key(problem, set);
     let mut least = None;
     let mut left = below(set, set);
     'parts: while !is_empty(left) {
         steps.count();
+        let right = without(set, left);
         least = lesser(
             least,
-            split(problem, table, left, without(set, left), facts),
+            split(problem, table, left, right, facts, keys, least),
         );
         left = below(set, left);
     }
@@ -118,14 +120,16 @@ fn lesser(first: Option<Choice>, second: Option<Choice>) -> Option<Choice>
     }
 }
 
-/// The step of the first trees of two disjoint sets, where it is legal and both have one. `facts` are those of their union,
-/// which is joinable.
+/// The step of the first trees of two disjoint sets, where it is legal and both have one; `facts` are those of their union,
+/// which is joinable, and `keys` says whether it may have a key. Where it costs more than the least so far, any step that does too.
 fn split(
     problem: &Problem,
     table: &Table,
     left: RelSet,
     right: RelSet,
     facts: &Facts,
+    keys: bool,
+    least: Option<Choice>,
 ) -> Option<Choice>
     requires sets { All HasApartSets problem.now.joins }
     requires few { length table.now ≤ 2 ^ 16 }
@@ -136,29 +140,11 @@ fn split(
     requires apart { Apart left right }
     requires facts { facts.now ≡ facts_of problem.now.joins (bit_or left right) }
     requires joinable { facts.now.joinable ≡ true }
-    ensures { result ≡ split_of problem.now table.now left right }
+    requires keys { keys ≡ may_have_key problem.now (bit_or left right) }
+    ensures { lesser least result ≡ lesser least (split_of problem.now table.now left right) }
 {
     let a = table.entry(left)?;
     let b = table.entry(right)?;
     let kind = kind_of(problem, left, right, &a.facts, &b.facts, facts)?;
-    Some(step(kind, a, b))
-}
-
-/// A step of two trees.
-fn step(kind: Step, left: Found, right: Found) -> Choice
-    requires left_cost { left.cost ≤ 2 ^ 126 }
-    requires right_cost { right.cost ≤ 2 ^ 126 }
-    requires left_rows { left.rows ≤ 2 ^ 60 }
-    requires right_rows { right.rows ≤ 2 ^ 60 }
-    ensures { result ≡ stepped kind left right }
-{
-    Choice {
-        node: PlanNode::Join {
-            method: Method::Nest,
-            step: kind,
-            left: left.plan,
-            right: right.plan,
-        },
-        cost: left.cost + right.cost + step_cost(Method::Nest, left.rows, right.rows),
-    }
+    Some(step(problem, left, right, kind, a, b, keys, least))
 }

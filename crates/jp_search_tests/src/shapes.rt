@@ -2,14 +2,15 @@ ghost use Rattle.std.specs.Prelude.{◌≡◌, ◌<◌, length};
 ghost use Rattle.jp_problem.specs.Made.{IsSearchable};
 
 use jp_base::{ItemNo, Memory};
-use jp_problem::Problem;
+use jp_problem::{Method, Problem};
 use jp_search::{Steps, best};
 use jp_tree::{PlanId, PlanNode, Pool};
 use std::alloc::Global;
 use std::marker::Brand;
 use std::sync::ledger::{Blank, Ledger};
 
-/// The plan of a problem: an item by its number, a step by its two sides in parentheses.
+/// The plan of a problem: an item by its number, a step by its two sides in parentheses, with its method between them where
+/// it isn't Nest.
 pub fn shape_of(alloc: Global, problem: &Problem) -> Result<String, Memory>
     requires { IsSearchable problem.now }
 {
@@ -39,14 +40,28 @@ fn write_shape(pool: &Pool, id: PlanId, text: &mut String) -> Result<(), Memory>
 {
     match pool.node(id) {
         PlanNode::Scan(item) => write_item(item, text),
-        PlanNode::Join { left, right, .. } => {
+        PlanNode::Join {
+            method,
+            left,
+            right,
+            ..
+        } => {
             text.push_str("(")?;
             write_shape(pool, left, text)?;
-            text.push_str(" ")?;
+            text.push_str(word_of(method))?;
             write_shape(pool, right, text)?;
             text.push_str(")")?;
             Ok(())
         }
+    }
+}
+
+fn word_of(method: Method) -> &'static str {
+    match method {
+        Method::Nest => " ",
+        Method::Hash => " hash ",
+        Method::HashRight => " hash right ",
+        Method::Merge => " merge ",
     }
 }
 

@@ -178,7 +178,7 @@ module _ (catalog : Catalog) (sources : List Source) (old new : ℕ → Option B
   block_grows number s b h = record {
     items = zip_weaker (IsItem catalog sources old nodes number) (IsItem catalog sources new (nodes ++ others) number) (item_grows number) (items_of_block s.query) b.problem.items h.items;
     problem = h.problem;
-    plan = record { tree = h.plan.tree; is = tree_stays nodes others b.plan h.plan.tree h.plan.is; plan = h.plan.plan; nests = h.plan.nests; first = h.plan.first };
+    plan = record { tree = h.plan.tree; is = tree_stays nodes others b.plan h.plan.tree h.plan.is; plan = h.plan.plan; first = h.plan.first };
     columns = h.columns;
     distinct = h.distinct;
     order = h.order;
@@ -313,7 +313,7 @@ module _ (catalog : Catalog) (entries : List Entry) (blocks : List Block) (price
       items = zip_weaker (IsItem catalog sources block_at nodes number) (IsItem catalog sources (block_from_end count new_blocks) (nodes ++ others) number) (item_grows catalog sources block_at (block_from_end count new_blocks) nodes others grow number)
           (items_of_block entry.part.query) block.problem.items (items_are planned.items places);
       problem = planned.problem;
-      plan = record { tree = planned.plan.tree; is = planned.plan.is; plan = planned.plan.plan; nests = planned.plan.nests; first = planned.plan.first };
+      plan = record { tree = planned.plan.tree; is = planned.plan.is; plan = planned.plan.plan; first = planned.plan.first };
       columns = planned.columns;
       distinct = planned.distinct;
       order = planned.order;

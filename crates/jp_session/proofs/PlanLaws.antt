@@ -9,7 +9,7 @@ use Rattle.jp_problem.specs.Made.{IsSearchable}
 use Rattle.jp_problem.specs.Problems.{items_of, problem_of}
 use Rattle.jp_problem.specs.Trees.{Tree, IsPlan}
 use Rattle.jp_query.specs.declared.Query.{Query, out-Query}
-use Rattle.jp_search.specs.TreeOrder.{ComesBefore, OnlyNests}
+use Rattle.jp_search.specs.TreeOrder.{ComesBefore}
 use Rattle.jp_tree.specs.declared.pool.PlanNode.{PlanNode}
 use Rattle.jp_tree.specs.declared.prepared.Block.{Block}
 use Rattle.jp_tree.specs.Pools.{IsTreeOf}
@@ -17,7 +17,7 @@ use Rattle.jp_prepared.specs.Sources.{items_of_block}
 use Rattle.jp_session.specs.declared.gathering.Entry.{Entry}
 use Rattle.jp_session.specs.declared.prices.Price.{Price}
 use Rattle.jp_session.specs.Blocks.{CanBePlanned, IsPlanned}
-use Rattle.jp_session.specs.Costs.{IsNestPlan}
+use Rattle.jp_session.specs.Costs.{IsLegalPlan}
 use Rattle.jp_session.specs.Items.{AreItems}
 
 -- the search takes the problem of the items
@@ -27,14 +27,14 @@ searched catalog prices count entry q inner items problem can same at them is =
     let own = subst (λ ps. AreItems catalog prices count (items_of_block entry.part.query) ps items) at (subst (λ b. AreItems catalog prices count (items_of_block b) inner items) same them) in
     subst IsSearchable (sym (subst (λ x. problem ≡ problem_of items x) same is)) (can.can items own).searchable
 
--- the first of the legal trees is a plan by nested loops
-pub is_nest : (problem : Problem) (nodes : List PlanNode) (plan : ℕ) → (tree : Tree) × IsTreeOf nodes plan tree × IsPlan problem tree × OnlyNests tree → IsNestPlan problem nodes plan
-is_nest problem nodes plan h = record { tree = h.0; is = h.1; legal = h.2.legal; nests = h.3 }
+-- the first of the legal trees is one
+pub is_legal : (problem : Problem) (nodes : List PlanNode) (plan : ℕ) → (tree : Tree) × IsTreeOf nodes plan tree × IsPlan problem tree → IsLegalPlan problem nodes plan
+is_legal problem nodes plan h = record { tree = h.0; is = h.1; legal = h.2.legal }
 
 pub is_planned : (catalog : Catalog) (prices : List Price) (count : ℕ) (entry : Entry) (q : Query) (inner : List ℕ) (items : List Item) (nodes : List PlanNode) (block : Block) (price : Price) → q ≡ entry.part.query → inner ≡ entry.inner
     → AreItems catalog prices count (items_of_block q) inner items → block.problem ≡ problem_of items q
-    → (tree : Tree) × IsTreeOf nodes block.plan tree × IsPlan block.problem tree × OnlyNests tree
-    → ((tree other : Tree) → IsTreeOf nodes block.plan tree → IsPlan block.problem other → OnlyNests other → ¬ ComesBefore block.problem other tree)
+    → (tree : Tree) × IsTreeOf nodes block.plan tree × IsPlan block.problem tree
+    → ((tree other : Tree) → IsTreeOf nodes block.plan tree → IsPlan block.problem other → ¬ ComesBefore block.problem other tree)
     → block.columns ≡ (out-Query q).columns → block.distinct ≡ (out-Query q).distinct → block.order ≡ (out-Query q).order → block.sub ≡ entry.part.sub
     → price.rows ≡ estimate block.problem (items_of block.problem) → ((tree : Tree) → IsTreeOf nodes block.plan tree → price.cost ≡ tree_cost block.problem tree) → price.rows ≤ 2 ^ 60 → price.cost ≤ 2 ^ 126
     → IsPlanned catalog prices count entry nodes block price
@@ -45,7 +45,7 @@ is_planned catalog prices count entry q inner items nodes block price same at th
     record {
       items = subst (AreItems catalog prices count (items_of_block entry.part.query) entry.inner) their own;
       problem = subst (λ xs. block.problem ≡ problem_of xs entry.part.query) their made;
-      plan = record { tree = plan.0; is = plan.1; plan = plan.2; nests = plan.3; first = λ other legal nests. first plan.0 other plan.1 legal nests };
+      plan = record { tree = plan.0; is = plan.1; plan = plan.2; first = λ other legal. first plan.0 other plan.1 legal };
       columns = subst (λ x. block.columns ≡ (out-Query x).columns) same columns;
       distinct = subst (λ x. block.distinct ≡ (out-Query x).distinct) same distinct;
       order = subst (λ x. block.order ≡ (out-Query x).order) same order;

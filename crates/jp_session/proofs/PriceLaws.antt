@@ -1,8 +1,9 @@
--- The parts of a plan by nested loops are such plans, and cost no more.
+-- The parts of a legal plan are legal plans, and cost no more.
 use Rattle.std.proofs.Common.{◌≡◌, ◌∙◌, ap, ap₂, sym, refl, subst, ℕ, ◌+◌, ◌<◌, ◌≤◌, ◌^◌, List, Option, Some, bit_or, slice_get, length}
 use Rattle.jp_cost.specs.Costs.{cost}
 use Rattle.jp_cost.specs.Estimates.{estimate}
 use Rattle.jp_cost.specs.TreeCosts.{scan_cost, tree_cost}
+use Rattle.jp_cost.proofs.CostLaws.{tree_at_most}
 use Rattle.jp_problem.specs.declared.types.Method.{Method}
 use Rattle.jp_problem.specs.declared.types.Problem.{Problem}
 use Rattle.jp_problem.specs.declared.types.Step.{Step}
@@ -10,13 +11,11 @@ use Rattle.jp_problem.specs.Made.{IsSearchable}
 use Rattle.jp_problem.specs.Trees.{Tree, IsLegalTree, set_of}
 use Rattle.jp_problem.specs.Trees as tree
 use Rattle.jp_query.specs.Refs.{only}
-use Rattle.jp_search.specs.TreeOrder.{OnlyNests}
-use Rattle.jp_search.proofs.CostLaws.{tree_most}
 use Rattle.jp_tree.specs.declared.pool.PlanNode.{PlanNode}
 use Rattle.jp_tree.specs.declared.pool.PlanNode.TheVariants.{Scan, Join}
 use Rattle.jp_tree.specs.Pools.{IsTreeOf}
 use Rattle.jp_tree.proofs.PoolLaws.{named_below}
-use Rattle.jp_session.specs.Costs.{IsNestPlan, IsPricedAs}
+use Rattle.jp_session.specs.Costs.{IsLegalPlan, IsPricedAs}
 
 -- ---- the two forms of a node
 
@@ -38,7 +37,7 @@ pub scan_is : (problem : Problem) (nodes : List PlanNode) (plan item : ℕ) (t :
 scan_is problem nodes plan item (tree.Scan i) e h = ap tree.Scan (scans i item (some_node (Scan i) (Scan item) (slice_get nodes plan) h e))
 scan_is problem nodes plan item (tree.Join m s a b) e (l, r, h, x, y) = clash item m s l r (some_node (Scan item) (Join m s l r) (slice_get nodes plan) e h)
 
-pub scan_there : (problem : Problem) (nodes : List PlanNode) (plan item : ℕ) → slice_get nodes plan ≡ Some (Scan item) → IsNestPlan problem nodes plan → item < length problem.items
+pub scan_there : (problem : Problem) (nodes : List PlanNode) (plan item : ℕ) → slice_get nodes plan ≡ Some (Scan item) → IsLegalPlan problem nodes plan → item < length problem.items
 scan_there problem nodes plan item e p = subst (IsLegalTree problem) (scan_is problem nodes plan item p.tree e p.is) p.legal
 
 -- the trees of a join's sides
@@ -73,26 +72,24 @@ sides problem nodes plan m s l r (tree.Join n z a b) e (x, y, h, on_a, on_b) =
       on_right = subst (λ i. IsTreeOf nodes i b) (join_right n m z s x y l r same) on_b;
     }
 
-pub left_plan : (problem : Problem) (nodes : List PlanNode) (plan : ℕ) (m : Method) (s : Step) (l r : ℕ) → slice_get nodes plan ≡ Some (Join m s l r) → IsNestPlan problem nodes plan → IsNestPlan problem nodes l
+pub left_plan : (problem : Problem) (nodes : List PlanNode) (plan : ℕ) (m : Method) (s : Step) (l r : ℕ) → slice_get nodes plan ≡ Some (Join m s l r) → IsLegalPlan problem nodes plan → IsLegalPlan problem nodes l
 left_plan problem nodes plan m s l r e p =
     let h = sides problem nodes plan m s l r p.tree e p.is in
     let legal = subst (IsLegalTree problem) h.is p.legal in
-    let nests = subst OnlyNests h.is p.nests in
-    record { tree = h.left; is = h.on_left; legal = legal.2; nests = nests.1 }
+    record { tree = h.left; is = h.on_left; legal = legal.2 }
 
-pub right_plan : (problem : Problem) (nodes : List PlanNode) (plan : ℕ) (m : Method) (s : Step) (l r : ℕ) → slice_get nodes plan ≡ Some (Join m s l r) → IsNestPlan problem nodes plan → IsNestPlan problem nodes r
+pub right_plan : (problem : Problem) (nodes : List PlanNode) (plan : ℕ) (m : Method) (s : Step) (l r : ℕ) → slice_get nodes plan ≡ Some (Join m s l r) → IsLegalPlan problem nodes plan → IsLegalPlan problem nodes r
 right_plan problem nodes plan m s l r e p =
     let h = sides problem nodes plan m s l r p.tree e p.is in
     let legal = subst (IsLegalTree problem) h.is p.legal in
-    let nests = subst OnlyNests h.is p.nests in
-    record { tree = h.right; is = h.on_right; legal = legal.3; nests = nests.2 }
+    record { tree = h.right; is = h.on_right; legal = legal.3 }
 
-pub plan_below : (problem : Problem) (nodes : List PlanNode) (plan : ℕ) → IsNestPlan problem nodes plan → plan < length nodes
+pub plan_below : (problem : Problem) (nodes : List PlanNode) (plan : ℕ) → IsLegalPlan problem nodes plan → plan < length nodes
 plan_below problem nodes plan p = named_below nodes plan p.tree p.is
 
 -- what it costs
-pub plan_most : (problem : Problem) (nodes : List PlanNode) (plan : ℕ) → IsSearchable problem → (p : IsNestPlan problem nodes plan) → tree_cost problem p.tree ≤ 2 ^ 126
-plan_most problem nodes plan s p = tree_most problem s.estimable s.few s.costs p.tree p.legal p.nests
+pub plan_most : (problem : Problem) (nodes : List PlanNode) (plan : ℕ) → IsSearchable problem → (p : IsLegalPlan problem nodes plan) → tree_cost problem p.tree ≤ 2 ^ 126
+plan_most problem nodes plan s p = tree_at_most problem s p.tree p.legal
 
 pub priced_scan : (problem : Problem) (nodes : List PlanNode) (plan item set n : ℕ) → slice_get nodes plan ≡ Some (Scan item) → set ≡ only item → n ≡ scan_cost (slice_get problem.items item)
     → (t : Tree) → IsTreeOf nodes plan t → IsPricedAs problem t set n
@@ -112,7 +109,7 @@ priced_join problem nodes plan m s l r ls lc rs rc set n step e on_l on_r covers
     })
 
 -- the sums of a join's cost are no greater than that of the tree
-pub sums_fit : (problem : Problem) (nodes : List PlanNode) (plan : ℕ) (m : Method) (s : Step) (l r ls lc rs rc step : ℕ) → IsSearchable problem → IsNestPlan problem nodes plan → slice_get nodes plan ≡ Some (Join m s l r)
+pub sums_fit : (problem : Problem) (nodes : List PlanNode) (plan : ℕ) (m : Method) (s : Step) (l r ls lc rs rc step : ℕ) → IsSearchable problem → IsLegalPlan problem nodes plan → slice_get nodes plan ≡ Some (Join m s l r)
     → ((t : Tree) → IsTreeOf nodes l t → IsPricedAs problem t ls lc) → ((t : Tree) → IsTreeOf nodes r t → IsPricedAs problem t rs rc) → step ≡ cost m (estimate problem ls) (estimate problem rs) → lc + rc + step ≤ 2 ^ 126
 sums_fit problem nodes plan m s l r ls lc rs rc step searchable p e on_l on_r steps =
     let whole = priced_join problem nodes plan m s l r ls lc rs rc (bit_or ls rs) (lc + rc + step) step e on_l on_r refl steps refl p.tree p.is in

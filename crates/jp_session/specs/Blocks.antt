@@ -13,7 +13,7 @@ use Rattle.jp_query.specs.Freshness.{IsFresh}
 use Rattle.jp_query.specs.NoRight.{HasNoRight}
 use Rattle.jp_query.specs.declared.Query.{Query, out-Query}
 use Rattle.jp_resolution.specs.Schemas.{schema_of}
-use Rattle.jp_search.specs.TreeOrder.{ComesBefore, OnlyNests}
+use Rattle.jp_search.specs.TreeOrder.{ComesBefore}
 use Rattle.jp_tree.specs.declared.pool.PlanNode.{PlanNode}
 use Rattle.jp_tree.specs.declared.prepared.Block.{Block}
 use Rattle.jp_tree.specs.Pools.{IsTreeOf}
@@ -31,13 +31,12 @@ use Rattle.jp_session.specs.Visits.{IsPut}
 abbrev pub block_from_end : ℕ → List Block → ℕ → Option Block
 block_from_end count blocks number = if nat_lt number count then slice_get blocks (number_of count number) else None
 
--- the first of the legal trees of nested loops
+-- the first of the legal trees of all items
 pub record HasFirst (nodes : List PlanNode) (block : Block) : Type 0 where
   pub tree : Tree
   pub is : IsTreeOf nodes block.plan tree
   pub plan : IsPlan block.problem tree
-  pub nests : OnlyNests tree
-  pub first : (other : Tree) → IsPlan block.problem other → OnlyNests other → ¬ ComesBefore block.problem other tree
+  pub first : (other : Tree) → IsPlan block.problem other → ¬ ComesBefore block.problem other tree
 
 pub record HasPrice (nodes : List PlanNode) (block : Block) (price : Price) : Type 0 where
   pub rows : price.rows ≡ estimate block.problem (items_of block.problem)

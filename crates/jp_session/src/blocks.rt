@@ -1,7 +1,7 @@
 ghost use Rattle.std.specs.Prelude.{◌≡◌, ◌+◌, ◌<◌, ◌≤◌, ◌^◌, IfOk, OnOk, length};
 ghost use Rattle.jp_problem.specs.Made.{IsSearchable};
 ghost use Rattle.jp_session.specs.Blocks.{AreMade, CanBePlanned, IsList, IsPlanned};
-ghost use Rattle.jp_session.specs.Costs.{IsNestPlan};
+ghost use Rattle.jp_session.specs.Costs.{IsLegalPlan};
 ghost use Rattle.jp_tree.specs.Pools.{GrowsTo, IsTreeOf};
 ghost use Rattle.jp_cost.specs.Estimates.{estimate as estimate_of};
 ghost use Rattle.jp_cost.specs.TreeCosts.{tree_cost};
@@ -140,7 +140,7 @@ fn plan_block<L: Ledger>(
 /// What a plan of all items is estimated to give, and what it costs.
 fn price_of_plan(problem: &Problem, pool: &Pool, plan: PlanId) -> Price
     requires searchable { IsSearchable problem.now }
-    requires plan { IsNestPlan problem.now pool.now.nodes plan }
+    requires plan { IsLegalPlan problem.now pool.now.nodes plan }
     ensures rows { result.rows ≡ estimate_of problem.now (all_items problem.now) }
     ensures cost { (tree : Tree) → IsTreeOf pool.now.nodes plan tree → result.cost ≡ tree_cost problem.now tree }
     ensures few { result.rows ≤ 2 ^ 60 }

@@ -4,7 +4,7 @@ ghost use Rattle.jp_cost.specs.Estimates.{estimate};
 ghost use Rattle.jp_cost.specs.TreeCosts.{scan_cost, tree_cost};
 ghost use Rattle.jp_problem.specs.Made.{IsSearchable};
 ghost use Rattle.jp_problem.specs.Trees.{Tree};
-ghost use Rattle.jp_session.specs.Costs.{IsNestPlan, IsPricedAs};
+ghost use Rattle.jp_session.specs.Costs.{IsLegalPlan, IsPricedAs};
 ghost use Rattle.jp_tree.specs.Pools.{IsTreeOf};
 
 use jp_base::{ItemNo, RelSet};
@@ -23,7 +23,7 @@ struct Priced {
 /// What the plan of a number costs: the sum over its scans and its steps.
 pub fn plan_cost(problem: &Problem, pool: &Pool, plan: PlanId) -> u128
     requires searchable { IsSearchable problem.now }
-    requires plan { IsNestPlan problem.now pool.now.nodes plan }
+    requires plan { IsLegalPlan problem.now pool.now.nodes plan }
     ensures { (tree : Tree) → IsTreeOf pool.now.nodes plan tree → result ≡ tree_cost problem.now tree }
 {
     price_of(problem, pool, plan).cost
@@ -31,7 +31,7 @@ pub fn plan_cost(problem: &Problem, pool: &Pool, plan: PlanId) -> u128
 
 fn price_of(problem: &Problem, pool: &Pool, plan: PlanId) -> Priced
     requires searchable { IsSearchable problem.now }
-    requires plan { IsNestPlan problem.now pool.now.nodes plan }
+    requires plan { IsLegalPlan problem.now pool.now.nodes plan }
     ensures { (tree : Tree) → IsTreeOf pool.now.nodes plan tree → IsPricedAs problem.now tree result.set result.cost }
 {
     match pool.node(plan) {

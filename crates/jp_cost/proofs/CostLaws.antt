@@ -94,33 +94,35 @@ not_within (x ∷ items) (suc i) low is = not_within items i (omega (arith, low)
 
 -- ---- trees
 
-rows_at_most : (problem : Problem) → IsEstimable problem → (set : ℕ) → estimate problem set ≤ 2 ^ 60
+pub rows_at_most : (problem : Problem) → IsEstimable problem → (set : ℕ) → estimate problem set ≤ 2 ^ 60
 rows_at_most problem ok set = (rounds_range problem ok.rows (suc (length problem.joins)) set).1
 
 abbrev with_step : Item → ℕ
 with_step item = item.cost + 2 ^ 120
 
-tree_weight : (problem : Problem) → IsEstimable problem → (t : Tree) → IsLegalTree problem t → tree_cost problem t + 2 ^ 120 ≤ weight with_step 0 problem.items (set_of t)
-tree_weight problem ok (Scan i) legal = at_item (slice_get problem.items i) refl
-  where
-    zero_plus : 0 + i ≡ i
-    zero_plus = omega arith
-
-    here : bit_at (2 ^ i) (0 + i) ≡ 1
-    here = subst (λ k. bit_at (2 ^ i) k ≡ 1) (sym zero_plus) (bit_at-pow_same i)
-
-    at_item : (o : Option Item) → slice_get problem.items i ≡ o → scan_cost o + 2 ^ 120 ≤ weight with_step 0 problem.items (2 ^ i)
-    at_item (Some item) is = weighs_here with_step problem.items 0 i (2 ^ i) item is here
-    at_item None is = absurd (not_within problem.items i legal is)
-tree_weight problem ok (Join m k a b) legal =
-    omega (arith, most, tree_weight problem ok a legal.2, tree_weight problem ok b legal.3, weight_of_both with_step problem.items 0 (set_of a) (set_of b) legal.0.step.apart)
-  where
-    most : cost m (estimate problem (set_of a)) (estimate problem (set_of b)) ≤ 2 ^ 120
-    most = cost_most m (estimate problem (set_of a)) (estimate problem (set_of b)) (rows_at_most problem ok (set_of a)) (rows_at_most problem ok (set_of b))
-
 all_weigh : (items : List Item) → sum_by with_step items ≡ sum_by cost_of items + length items * 2 ^ 120
 all_weigh [] = refl
 all_weigh (item ∷ items) = omega (arith, sum_by-cons with_step item items, sum_by-cons cost_of item items, all_weigh items)
 
+module _ (problem : Problem) (fits : (set : ℕ) → estimate problem set ≤ 2 ^ 60) where
+  tree_weight : (t : Tree) → IsLegalTree problem t → tree_cost problem t + 2 ^ 120 ≤ weight with_step 0 problem.items (set_of t)
+  tree_weight (Scan i) legal = at_item (slice_get problem.items i) refl
+    where
+      zero_plus : 0 + i ≡ i
+      zero_plus = omega arith
+
+      here : bit_at (2 ^ i) (0 + i) ≡ 1
+      here = subst (λ k. bit_at (2 ^ i) k ≡ 1) (sym zero_plus) (bit_at-pow_same i)
+
+      at_item : (o : Option Item) → slice_get problem.items i ≡ o → scan_cost o + 2 ^ 120 ≤ weight with_step 0 problem.items (2 ^ i)
+      at_item (Some item) is = weighs_here with_step problem.items 0 i (2 ^ i) item is here
+      at_item None is = absurd (not_within problem.items i legal is)
+  tree_weight (Join m k a b) legal =
+      omega (arith, cost_most m (estimate problem (set_of a)) (estimate problem (set_of b)) (fits (set_of a)) (fits (set_of b)), tree_weight a legal.2, tree_weight b legal.3, weight_of_both with_step problem.items 0 (set_of a) (set_of b) legal.0.step.apart)
+
+  -- the items, and a step for each of them but one
+  pub items_and_steps : (t : Tree) → IsLegalTree problem t → tree_cost problem t + 2 ^ 120 ≤ sum_by cost_of problem.items + length problem.items * 2 ^ 120
+  items_and_steps t legal = omega (arith, tree_weight t legal, weighs_at_most with_step problem.items 0 (set_of t), all_weigh problem.items)
+
 pub tree_at_most : (problem : Problem) → IsSearchable problem → (t : Tree) → IsLegalTree problem t → tree_cost problem t ≤ 2 ^ 126
-tree_at_most problem ok t legal = omega (arith, tree_weight problem ok.estimable t legal, weighs_at_most with_step problem.items 0 (set_of t), all_weigh problem.items, ok.few, ok.costs)
+tree_at_most problem ok t legal = omega (arith, items_and_steps problem (rows_at_most problem ok.estimable) t legal, ok.few, ok.costs)
