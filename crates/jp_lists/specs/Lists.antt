@@ -5,7 +5,7 @@ use Rattle.jp_query.specs.declared.JoinKind.TheVariants as join
 use Rattle.jp_query.specs.declared.Order.{Order, out-Order}
 use Rattle.jp_query.specs.declared.Output.{Output, out-Output}
 use Rattle.jp_query.specs.InOrder.{direction_of}
-use Rattle.jp_query.specs.Meaning.{Row, Env, ValueIn, SortKey, no_outer_rows, with_row, with_rows, join_tuples, line_at, value_given}
+use Rattle.jp_query.specs.Meaning.{Row, Env, ValueIn, SortKey, no_outer_rows, with_row, with_rows, without, join_tuples, line_at, value_given}
 use Rattle.jp_query.specs.Ordering.{Line, outputs_of, distinct_lines, sorted}
 use Rattle.jp_query.specs.Refs.{union}
 use Rattle.jp_problem.specs.declared.types.Item.{Item}
@@ -95,10 +95,15 @@ listed_line blocks inner block env = line_at (map (listed_output blocks inner) b
 abbrev pub rows_of_lines : Block → List Line → List Row
 rows_of_lines block lines = map outputs_of (sorted (map direction_of block.order) (distinct_lines block.distinct lines))
 
+-- Around a block none of its own relations has a row: its items give them theirs.
+abbrev pub around_block : Block → Env → Env
+around_block block outer = without (union (problem_rels block.problem)) outer
+
 abbrev pub run_of_block : List Block → (ℕ → List Row) → Listing → Env → Block → Run
 run_of_block blocks tables inner outer block =
-    let sources = sources_of blocks tables inner outer block.problem.items in
-    record { sources = sources; environment = env_from 0 (problem_rels block.problem) sources outer; sublinks = sublink_rows blocks inner }
+    let around = around_block block outer in
+    let sources = sources_of blocks tables inner around block.problem.items in
+    record { sources = sources; environment = env_from 0 (problem_rels block.problem) sources around; sublinks = sublink_rows blocks inner }
 
 abbrev pub tuples_of_block : List Block → List PlanNode → (ℕ → List Row) → Listing → Env → Block → List Env
 tuples_of_block blocks nodes tables inner outer block =
