@@ -22,7 +22,7 @@ use Rattle.jp_prepared.proofs.Entries.{in_or_not, seen_entry, seen_behind, seen_
 use Rattle.jp_prepared.proofs.HeldTrees.{base_held, sub_held}
 use Rattle.jp_prepared.proofs.Places.{QueryPlaced}
 use Rattle.jp_prepared.proofs.SameLeaves.{HasNumber, number_at, one_tree, trees_in_query}
-use Rattle.jp_prepared.proofs.ScopeChange.{Agree, query_same}
+use Rattle.jp_prepared.proofs.ScopeChange.{Agree, bounds_look, query_same}
 use Rattle.jp_prepared.proofs.SourcePlaces as there
 
 -- ---- leaves by their forms
@@ -68,8 +68,8 @@ module _ (schema : Schema) (bases : ℕ) (query : Query) (sources : List Source)
       → ((d e : Entry) → In d s → In e o → d.relation ≡ e.relation → d.columns ≡ e.columns) → columns_of_query schema q s ≡ columns_of_query schema q o
   selects_same s o q knows_s knows_o common =
       let both = o ++ s in
-      let a = (query_same schema s (o ++ s) q knows_s from_s).0 in
-      let b = (query_same schema o (o ++ s) q knows_o from_o).0 in
+      let a = (query_same schema keeps_bounds bounds_look s (o ++ s) q knows_s from_s).0 in
+      let b = (query_same schema keeps_bounds bounds_look o (o ++ s) q knows_o from_o).0 in
       let value = columns_judged schema keeps_bounds q in
       sym (ap (λ (f : ColumnsIn). f s) value) ∙ sym a ∙ b ∙ ap (λ (f : ColumnsIn). f o) value
     where

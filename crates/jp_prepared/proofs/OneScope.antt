@@ -9,19 +9,20 @@ use Rattle.jp_query.specs.declared.Expr.{Expr}
 use Rattle.jp_query.specs.declared.JoinTree.{JoinTree}
 use Rattle.jp_query.specs.declared.JoinTree.TheVariants as tree
 use Rattle.jp_query.specs.declared.Query.{Query}
-use Rattle.jp_query.specs.Conditions.{judged_leaves, keeps_bounds, IsBoundedExpr}
+use Rattle.jp_query.specs.Conditions.{judged_leaves, keeps_bounds, knows_columns, IsBoundedExpr}
 use Rattle.jp_query.specs.Freshness.{Sublink, sublinks_in}
 use Rattle.jp_query.specs.Scopes.{Schema, Entry, Scope, BoundIn, EntriesIn, ColumnIn, ColumnsIn, columns_of_table, visible_columns, expr_bound, tree_entries, order_bound, output_column, query_columns, entries_of, columns_of_query, bound_of}
 use Rattle.jp_query.proofs.FoldLaws as laws
 use Rattle.jp_laws.proofs.EachPart.{Each}
 use Rattle.jp_laws.proofs.JudgedValues.{bound_judged}
 use Rattle.jp_conditions.proofs.Judging.{each_in}
+use Rattle.jp_tree.specs.Prepared.{KnowsScope}
 use Rattle.jp_prepared.specs.Names.{below}
 use Rattle.jp_prepared.specs.Sources.{Source, IsSourceAt, AreSources, items_of_block}
 use Rattle.jp_prepared.proofs.Entries.{seen_entry, entered}
 use Rattle.jp_prepared.proofs.OneEntry as entry
 use Rattle.jp_prepared.proofs.Places.{QueryPlaced, ExprPlaced}
-use Rattle.jp_prepared.proofs.ScopeChange.{Agree, expr_same}
+use Rattle.jp_prepared.proofs.ScopeChange.{Agree, bounds_look, columns_look, expr_same}
 use Rattle.jp_prepared.proofs.SourcePlaces as there
 use Rattle.jp_laws.proofs.TuplesFit.{InEntries}
 
@@ -119,9 +120,12 @@ module _ (schema : Schema) (bases : ℕ) (query : Query) (sources : List Source)
   agrees s good rel h = let e = seen_entry s rel h in ap (visible_columns everywhere) (sym e.2) ∙ seen e.0 (each_in Given s e.0 good e.1) ∙ sym e.3
 
   pub bounded_everywhere : (s : Scope) (e : Expr) → ExprPlaced schema bases s e → Each Given s → IsBoundedExpr schema everywhere e
-  bounded_everywhere s e placed good = (expr_same schema s everywhere e placed.0.0.0 (agrees s good)).1 ∙ placed.0.1.1
+  bounded_everywhere s e placed good = (expr_same schema keeps_bounds bounds_look s everywhere e placed.0.0.0 (agrees s good)).1 ∙ placed.0.1.1
+
+  pub known_everywhere : (s : Scope) (e : Expr) → ExprPlaced schema bases s e → Each Given s → KnowsScope schema everywhere e
+  known_everywhere s e placed good = (expr_same schema knows_columns columns_look s everywhere e placed.0.0.0 (agrees s good)).1 ∙ placed.0.0.0
 
   pub bound_everywhere : (s : Scope) (e : Expr) → ExprPlaced schema bases s e → Each Given s → bound_of schema e everywhere ≡ bound_of schema e s
   bound_everywhere s e placed good =
       let value = bound_judged schema keeps_bounds e in
-      sym (ap (λ (f : BoundIn). f everywhere) value) ∙ (expr_same schema s everywhere e placed.0.0.0 (agrees s good)).0 ∙ ap (λ (f : BoundIn). f s) value
+      sym (ap (λ (f : BoundIn). f everywhere) value) ∙ (expr_same schema keeps_bounds bounds_look s everywhere e placed.0.0.0 (agrees s good)).0 ∙ ap (λ (f : BoundIn). f s) value

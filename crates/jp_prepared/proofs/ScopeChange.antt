@@ -1,4 +1,5 @@
--- Bounds hold in every scope in which the relations that are visible have the same columns.
+-- What is asked of an expression's bounds and columns holds in every scope in which the relations that are visible have the
+-- same columns.
 use Rattle.std.proofs.Common.{◌≡◌, ◌∙◌, ap, ap₂, sym, subst, refl, ℕ, inl, inr, Bool, true, ◌&&◌, List, [], ◌∷◌, ◌++◌, map, Some, None}
 use Rattle.std.specs.Prelude.{slice_get, sum}
 use Rattle.std.specs.List.{list_all, flat_map}
@@ -10,9 +11,9 @@ use Rattle.jp_query.specs.declared.Query.{Query}
 use Rattle.jp_query.specs.declared.Expr.TheOpen.{Expr-F, JoinTree-F}
 use Rattle.jp_query.specs.declared.Expr.TheViews.{roll-Expr, roll-JoinTree, roll-Order, roll-Output, roll-Query}
 use Rattle.jp_query.specs.declared.Expr.TheFolds.{map-Expr, map-JoinTree, fold-roll-Expr, fold-roll-JoinTree, fold-roll-Order, fold-roll-Output, fold-roll-Query}
-use Rattle.jp_query.specs.Conditions.{Judged, judged_value, passes_in, judged_bound, judged_entries, all_entries, expr_judged, tree_judged, order_judged, output_judged, query_judged, judged_expr, judged_tree, judged_query, knows_columns, keeps_bounds, sees_column, fits}
+use Rattle.jp_query.specs.Conditions.{Judged, Tests, judged_value, passes_in, judged_bound, judged_entries, all_entries, expr_judged, tree_judged, order_judged, output_judged, query_judged, judged_expr, judged_tree, judged_query, knows_columns, keeps_bounds, sees_column, has_type}
 use Rattle.jp_query.specs.Layers.{ExprLayer, JoinTreeLayer, OrderLayer, OutputLayer, QueryLayer}
-use Rattle.jp_query.specs.Parts.{node_column, node_placeholder, option_part, arm_parts, term_part, parts, sublink_query, trees, conditions, leaf_query}
+use Rattle.jp_query.specs.Parts.{ColumnRef, node_column, node_placeholder, option_part, arm_parts, term_part, parts, sublink_query, trees, conditions, leaf_query}
 use Rattle.jp_query.specs.Scopes.{Column, Schema, Entry, Scope, bound_of_column, visible_columns, in_scope, arm_result, greatest, product, join_entries}
 use Rattle.jp_induction.proofs.HandedDown as handed
 use Rattle.jp_laws.proofs.EachPart.{Each, each_true, parts_map, sublink_map, trees_map, conditions_map, leaf_map}
@@ -48,21 +49,33 @@ module _ {A : Type 0} where
     passes_same [] h = refl
     passes_same (x ∷ xs) h = λ i. h.0.1 i && passes_same xs h.1 i
 
-module _ (schema : Schema) where
+-- tests that look at no more of a scope than the columns that it shows
+pub record LooksAtColumns (tests : Tests) : Type 0 where
+  pub column : (s o : Scope) (c : ColumnRef) → visible_columns o c.relation ≡ visible_columns s c.relation → tests.column o c ≡ tests.column s c
+  pub placeholder : (s o : Scope) (rels : ℕ) → tests.placeholder o rels ≡ tests.placeholder s rels
+  pub scope : (s o : Scope) → tests.scope o ≡ tests.scope s
+
+pub bounds_look : LooksAtColumns keeps_bounds
+bounds_look = record { column = λ s o c same. refl; placeholder = λ s o rels. refl; scope = λ s o. refl }
+
+pub columns_look : LooksAtColumns knows_columns
+columns_look = record { column = λ s o c same. ap (λ (cs : List Column). has_type (slice_get cs c.column) c.type) same; placeholder = λ s o rels. refl; scope = λ s o. refl }
+
+module _ (schema : Schema) (tests : Tests) (looks : LooksAtColumns tests) where
   abbrev je : Expr → Judged ℕ
-  je = judged_expr schema keeps_bounds
+  je = judged_expr schema tests
 
   abbrev jt : JoinTree → Judged (List Entry)
-  jt = judged_tree schema keeps_bounds
+  jt = judged_tree schema tests
 
   abbrev jo : Order → Judged ℕ
-  jo = judged_order_by schema keeps_bounds
+  jo = judged_order_by schema tests
 
   abbrev ju : Output → Judged Column
-  ju = judged_output_by schema keeps_bounds
+  ju = judged_output_by schema tests
 
   abbrev jq : Query → Judged (List Column)
-  jq = judged_query schema keeps_bounds
+  jq = judged_query schema tests
 
   abbrev PE : Scope → Expr → Type 0
   PE s x = (o : Scope) → Agree s o → Same s o (je x)
@@ -118,6 +131,14 @@ module _ (schema : Schema) where
     bound_same (Expr-F.Case (Some first) arms (Some last)) own h = ap greatest (cases arms (last ∷ []) h.1)
     bound_same x own h = refl
 
+    columns_same : (x : ExprLayer) → ColumnSame x → list_all (tests.column o) (node_column (expr_level x)) ≡ list_all (tests.column s) (node_column (expr_level x))
+    columns_same (Expr-F.Col rel col ty nulled) own = ap (λ (b : Bool). b && true) (looks.column s o (record { relation = rel; column = col; type = ty }) own)
+    columns_same x own = refl
+
+    placeholders_same : (sets : List ℕ) → list_all (tests.placeholder o) sets ≡ list_all (tests.placeholder s) sets
+    placeholders_same [] = refl
+    placeholders_same (rels ∷ sets) = λ i. looks.placeholder s o rels i && placeholders_same sets i
+
   column_same : (s o : Scope) (x : ExprLayer) → (judged_expr schema knows_columns (roll-Expr x)).passes s ≡ true → Agree s o → ColumnSame s o x
   column_same s o (Expr-F.Col rel col ty nulled) c agree =
       agree rel (column_entry s (record { relation = rel; column = col; type = ty }) (each_true (sees_column s) (record { relation = rel; column = col; type = ty } ∷ []) (own_columns schema knows_columns s (Expr-F.Col rel col ty nulled) c)).0)
@@ -129,10 +150,12 @@ module _ (schema : Schema) where
       let es = at_scope (λ a b e. Same a b (je e)) s o agree (parts x) exprs in
       let qs = at_scope (λ a b q. Same a b (jq q)) s o agree (option_part (sublink_query x)) queries in
       let bound = bound_same s o x (column_same s o x c agree) es in
+      let columns = columns_same s o x (column_same s o x c agree) in
+      let placeholders = placeholders_same s o (node_placeholder y) in
       let inner = ap (list_all (passes_in o)) (parts_map je jt jo ju jq x) ∙ passes_same je s o (parts x) es ∙ sym (ap (list_all (passes_in s)) (parts_map je jt jo ju jq x)) in
       let subs = ap (list_all (passes_in o)) (sublink_map je jt jo ju jq x) ∙ passes_same jq s o (option_part (sublink_query x)) qs ∙ sym (ap (list_all (passes_in s)) (sublink_map je jt jo ju jq x)) in
-      subst (Same s o) (sym (fold-roll-Expr (Judged ℕ) (Judged (List Entry)) (Judged ℕ) (Judged Column) (Judged (List Column)) (expr_judged schema keeps_bounds) (tree_judged schema keeps_bounds) (order_judged schema keeps_bounds) (output_judged schema keeps_bounds) (query_judged schema keeps_bounds) x))
-      (bound, λ i. fits (bound i) && (list_all (λ r. true) (node_column y) && (list_all (λ r. true) (node_placeholder y) && (inner i && subs i))))
+      subst (Same s o) (sym (fold-roll-Expr (Judged ℕ) (Judged (List Entry)) (Judged ℕ) (Judged Column) (Judged (List Column)) (expr_judged schema tests) (tree_judged schema tests) (order_judged schema tests) (output_judged schema tests) (query_judged schema tests) x))
+      (bound, λ i. tests.bound (bound i) && (columns i && (placeholders i && (inner i && subs i))))
 
   -- ---- trees
 
@@ -141,7 +164,7 @@ module _ (schema : Schema) where
 
   entries_here : (s : Scope) (ts : List JoinTree) → all_entries (map jt ts) s ≡ entries_beside schema s ts
   entries_here s [] = refl
-  entries_here s (t ∷ ts) = λ i. entries_judged schema keeps_bounds t i s ++ entries_here s ts i
+  entries_here s (t ∷ ts) = λ i. entries_judged schema tests t i s ++ entries_here s ts i
 
   module _ (s o : Scope) where
     all_same : (ts : List JoinTree) → Each (λ t. Same s o (jt t)) ts → all_entries (map jt ts) o ≡ all_entries (map jt ts) s
@@ -172,18 +195,18 @@ module _ (schema : Schema) where
       ∙ sym (ap (list_all (passes_in (es ++ s))) (conditions_map je jt jo ju jq x)) ∙ sym (ap (λ l. list_all (passes_in (l ++ s)) (conditions y)) here) in
       let sided = ap (list_all (passes_in o)) (trees_map je jt jo ju jq x) ∙ passes_same jt s o (trees x) ts ∙ sym (ap (list_all (passes_in s)) (trees_map je jt jo ju jq x)) in
       let leaf = ap (list_all (passes_in o)) (leaf_map je jt jo ju jq x) ∙ passes_same jq s o (option_part (leaf_query x)) qs ∙ sym (ap (list_all (passes_in s)) (leaf_map je jt jo ju jq x)) in
-      subst (Same s o) (sym (fold-roll-JoinTree (Judged ℕ) (Judged (List Entry)) (Judged ℕ) (Judged Column) (Judged (List Column)) (expr_judged schema keeps_bounds) (tree_judged schema keeps_bounds) (order_judged schema keeps_bounds) (output_judged schema keeps_bounds) (query_judged schema keeps_bounds) x))
-      (tree_value_same s o x ts qs, λ i. true && (inner i && (sided i && leaf i)))
+      subst (Same s o) (sym (fold-roll-JoinTree (Judged ℕ) (Judged (List Entry)) (Judged ℕ) (Judged Column) (Judged (List Column)) (expr_judged schema tests) (tree_judged schema tests) (order_judged schema tests) (output_judged schema tests) (query_judged schema tests) x))
+      (tree_value_same s o x ts qs, λ i. looks.scope (all_entries (trees y) s ++ s) (all_entries (trees y) o ++ o) i && (inner i && (sided i && leaf i)))
 
   -- ---- ORDER BY items, outputs, queries
 
   order_step : (s : Scope) (x : OrderLayer) → (judged_order_by schema knows_columns (roll-Order x)).passes s ≡ true → PE s x.expr → PO s (roll-Order x)
-  order_step s x c h o agree = subst (Same s o) (sym (fold-roll-Order (Judged ℕ) (Judged (List Entry)) (Judged ℕ) (Judged Column) (Judged (List Column)) (expr_judged schema keeps_bounds) (tree_judged schema keeps_bounds) (order_judged schema keeps_bounds) (output_judged schema keeps_bounds) (query_judged schema keeps_bounds) x)) (h o agree)
+  order_step s x c h o agree = subst (Same s o) (sym (fold-roll-Order (Judged ℕ) (Judged (List Entry)) (Judged ℕ) (Judged Column) (Judged (List Column)) (expr_judged schema tests) (tree_judged schema tests) (order_judged schema tests) (output_judged schema tests) (query_judged schema tests) x)) (h o agree)
 
   output_step : (s : Scope) (x : OutputLayer) → (judged_output_by schema knows_columns (roll-Output x)).passes s ≡ true → PE s x.expr → PU s (roll-Output x)
   output_step s x c h o agree =
       let k = h o agree in
-      subst (Same s o) (sym (fold-roll-Output (Judged ℕ) (Judged (List Entry)) (Judged ℕ) (Judged Column) (Judged (List Column)) (expr_judged schema keeps_bounds) (tree_judged schema keeps_bounds) (order_judged schema keeps_bounds) (output_judged schema keeps_bounds) (query_judged schema keeps_bounds) x))
+      subst (Same s o) (sym (fold-roll-Output (Judged ℕ) (Judged (List Entry)) (Judged ℕ) (Judged Column) (Judged (List Column)) (expr_judged schema tests) (tree_judged schema tests) (order_judged schema tests) (output_judged schema tests) (query_judged schema tests) x))
       (ap (λ n. record { type = x.ty; bound = n }) k.0, k.1)
 
   query_step : (s : Scope) (q : QueryLayer) → (judged_query schema knows_columns (roll-Query q)).passes s ≡ true → Each (PU (above schema s q)) q.columns → PT s q.tree → Each (PE (above schema s q)) q.conds → Each (PO (above schema s q)) q.order → PQ s (roll-Query q)
@@ -194,15 +217,15 @@ module _ (schema : Schema) where
       let us = at_scope (λ a b u. Same a b (ju u)) (es ++ s) (es ++ o) more q.columns columns in
       let cs = at_scope (λ a b e. Same a b (je e)) (es ++ s) (es ++ o) more q.conds conds in
       let os = at_scope (λ a b x. Same a b (jo x)) (es ++ s) (es ++ o) more q.order order in
-      let here : (jt q.tree).value s ≡ es = ap (λ (f : Scope → List Entry). f s) (entries_judged schema keeps_bounds q.tree) in
+      let here : (jt q.tree).value s ≡ es = ap (λ (f : Scope → List Entry). f s) (entries_judged schema tests q.tree) in
       let there : (jt q.tree).value o ≡ es = t.0 ∙ here in
       let values : map (λ (u : Judged Column). u.value ((jt q.tree).value o ++ o)) (map ju q.columns) ≡ map (λ (u : Judged Column). u.value ((jt q.tree).value s ++ s)) (map ju q.columns) =
       ap (λ (l : List Entry). map (λ (u : Judged Column). u.value (l ++ o)) (map ju q.columns)) there ∙ each_value (es ++ s) (es ++ o) q.columns us ∙ sym (ap (λ (l : List Entry). map (λ (u : Judged Column). u.value (l ++ s)) (map ju q.columns)) here) in
       let column = ap (λ (l : List Entry). list_all (passes_in (l ++ o)) (map ju q.columns)) there ∙ passes_same ju (es ++ s) (es ++ o) q.columns us ∙ sym (ap (λ (l : List Entry). list_all (passes_in (l ++ s)) (map ju q.columns)) here) in
       let cond = ap (λ (l : List Entry). list_all (passes_in (l ++ o)) (map je q.conds)) there ∙ passes_same je (es ++ s) (es ++ o) q.conds cs ∙ sym (ap (λ (l : List Entry). list_all (passes_in (l ++ s)) (map je q.conds)) here) in
       let item = ap (λ (l : List Entry). list_all (passes_in (l ++ o)) (map jo q.order)) there ∙ passes_same jo (es ++ s) (es ++ o) q.order os ∙ sym (ap (λ (l : List Entry). list_all (passes_in (l ++ s)) (map jo q.order)) here) in
-      subst (Same s o) (sym (fold-roll-Query (Judged ℕ) (Judged (List Entry)) (Judged ℕ) (Judged Column) (Judged (List Column)) (expr_judged schema keeps_bounds) (tree_judged schema keeps_bounds) (order_judged schema keeps_bounds) (output_judged schema keeps_bounds) (query_judged schema keeps_bounds) q))
-      (values, λ i. t.1 i && (true && (column i && (cond i && item i))))
+      subst (Same s o) (sym (fold-roll-Query (Judged ℕ) (Judged (List Entry)) (Judged ℕ) (Judged Column) (Judged (List Column)) (expr_judged schema tests) (tree_judged schema tests) (order_judged schema tests) (output_judged schema tests) (query_judged schema tests) q))
+      (values, λ i. t.1 i && (looks.scope ((jt q.tree).value s ++ s) ((jt q.tree).value o ++ o) i && (column i && (cond i && item i))))
     where
       each_value : (a b : Scope) (us : List Output) → Each (λ u. Same a b (ju u)) us → map (λ (u : Judged Column). u.value b) (map ju us) ≡ map (λ (u : Judged Column). u.value a) (map ju us)
       each_value a b [] h = refl
@@ -211,8 +234,8 @@ module _ (schema : Schema) where
   steps : handed.StepsUnder Scope (inside schema) (above schema) (λ s x. (judged_expr schema knows_columns x).passes s ≡ true) (λ s x. (judged_tree schema knows_columns x).passes s ≡ true) (λ s x. (judged_order_by schema knows_columns x).passes s ≡ true) (λ s x. (judged_output_by schema knows_columns x).passes s ≡ true) (λ s x. (judged_query schema knows_columns x).passes s ≡ true) (judged_down schema knows_columns) PE PT PO PU PQ
   steps = record { expr = expr_step; tree = tree_step; order = order_step; output = output_step; query = query_step }
 
-  pub expr_same : (s o : Scope) (e : Expr) → (judged_expr schema knows_columns e).passes s ≡ true → Agree s o → Same s o (judged_expr schema keeps_bounds e)
+  pub expr_same : (s o : Scope) (e : Expr) → (judged_expr schema knows_columns e).passes s ≡ true → Agree s o → Same s o (judged_expr schema tests e)
   expr_same s o e c agree = handed.under_expr Scope (inside schema) (above schema) (λ s x. (judged_expr schema knows_columns x).passes s ≡ true) (λ s x. (judged_tree schema knows_columns x).passes s ≡ true) (λ s x. (judged_order_by schema knows_columns x).passes s ≡ true) (λ s x. (judged_output_by schema knows_columns x).passes s ≡ true) (λ s x. (judged_query schema knows_columns x).passes s ≡ true) (judged_down schema knows_columns) PE PT PO PU PQ steps e s c o agree
 
-  pub query_same : (s o : Scope) (q : Query) → (judged_query schema knows_columns q).passes s ≡ true → Agree s o → Same s o (judged_query schema keeps_bounds q)
+  pub query_same : (s o : Scope) (q : Query) → (judged_query schema knows_columns q).passes s ≡ true → Agree s o → Same s o (judged_query schema tests q)
   query_same s o q c agree = handed.under_query Scope (inside schema) (above schema) (λ s x. (judged_expr schema knows_columns x).passes s ≡ true) (λ s x. (judged_tree schema knows_columns x).passes s ≡ true) (λ s x. (judged_order_by schema knows_columns x).passes s ≡ true) (λ s x. (judged_output_by schema knows_columns x).passes s ≡ true) (λ s x. (judged_query schema knows_columns x).passes s ≡ true) (judged_down schema knows_columns) PE PT PO PU PQ steps q s c o agree

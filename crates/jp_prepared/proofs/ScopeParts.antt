@@ -10,6 +10,7 @@ use Rattle.jp_query.specs.declared.JoinTree.TheVariants as tree
 use Rattle.jp_query.specs.declared.Output.{Output}
 use Rattle.jp_query.specs.declared.Query.{Query, out-Query}
 use Rattle.jp_query.specs.declared.Expr.TheOpen.{JoinTree-F}
+use Rattle.jp_query.specs.declared.Expr.{Expr}
 use Rattle.jp_query.specs.declared.Expr.TheFolds.{fold-Output}
 use Rattle.jp_query.specs.Conditions.{judged_leaves, IsBoundedExpr}
 use Rattle.jp_query.specs.Freshness.{Sublink, sublinks_in}
@@ -29,14 +30,14 @@ use Rattle.jp_conditions.proofs.Numbers.{at_place}
 use Rattle.jp_tree.specs.declared.prepared.Block.{Block}
 use Rattle.jp_tree.specs.declared.prepared.Prepared.{Prepared}
 use Rattle.jp_tree.specs.BlockParts.{exprs_in, output_ty, IsBlockAt}
-use Rattle.jp_tree.specs.Prepared.{Shows, output_column}
+use Rattle.jp_tree.specs.Prepared.{KnowsScope, Shows, output_column}
 use Rattle.jp_prepared.specs.Planned.{IsItem, IsPrepared}
 use Rattle.jp_prepared.specs.Sources.{Source, IsSourceAt, items_of_block, queries_of_items, of_item}
 use Rattle.jp_prepared.proofs.CostBound.{as_written}
 use Rattle.jp_prepared.proofs.Counted.{each_by}
 use Rattle.jp_prepared.proofs.OneEntry as entry
 use Rattle.jp_prepared.proofs.OneScope as scope
-use Rattle.jp_prepared.proofs.Places.{QueryPlaced}
+use Rattle.jp_prepared.proofs.Places.{ExprPlaced, QueryPlaced}
 use Rattle.jp_prepared.proofs.PreparedBlocks as blocks
 use Rattle.jp_prepared.proofs.SourcePlaces as there
 use Rattle.jp_prepared.proofs.Zips.{of_second}
@@ -136,11 +137,18 @@ module _ (catalog : Catalog) (sound : IsSound catalog) (query : Query) (prepared
         select_seen n.0 s.0 leaf.0 item rel number inner s.1 leaf.1 leaf.2 (subst (λ k. IsSelectKind k rel number) (sym kinds) (refl, refl)) at_inner;
   }
 
-  pub bounded : All (λ (b : Block). All (IsBoundedExpr schema all) (exprs_in b)) prepared.blocks
-  bounded = blocks.all_blocks catalog sound query prepared is (λ (b : Block). All (IsBoundedExpr schema all) (exprs_in b)) (λ number block at.
+  -- what holds of an expression wherever it stands
+  everywhere : (P : Expr → Type 0) → ((s : Scope) (e : Expr) → ExprPlaced schema bases s e → Each Given s → P e) → All (λ (b : Block). All P (exprs_in b)) prepared.blocks
+  everywhere P holds = blocks.all_blocks catalog sound query prepared is (λ (b : Block). All P (exprs_in b)) (λ number block at.
       let s = blocks.source_of catalog sound query prepared is number block at in
       let p = placed number s.0 s.1 in
       let exprs = block_exprs s.0.query ++ flat_map exprs_of_item (items_of_block s.0.query) in
-      all_of_each (IsBoundedExpr schema all) (exprs_in block) (each_by (IsBoundedExpr schema all) (exprs_in block) (λ e m.
+      all_of_each P (exprs_in block) (each_by P (exprs_in block) (λ e m.
       let x = each_in (there.ExprSomewhere schema bases Given) exprs e (there.exprs_there schema bases Given p.0 s.0.query p.1) (blocks.block_expr catalog sound query prepared is number s.0 block s.2 e m) in
-      scope.bounded_everywhere schema bases (folded query) is.sources is.are leaves_apart equal top x.0 e x.1.0 x.1.1)))
+      holds x.0 e x.1.0 x.1.1)))
+
+  pub bounded : All (λ (b : Block). All (IsBoundedExpr schema all) (exprs_in b)) prepared.blocks
+  bounded = everywhere (IsBoundedExpr schema all) (scope.bounded_everywhere schema bases (folded query) is.sources is.are leaves_apart equal top)
+
+  pub known : All (λ (b : Block). All (KnowsScope schema all) (exprs_in b)) prepared.blocks
+  known = everywhere (KnowsScope schema all) (scope.known_everywhere schema bases (folded query) is.sources is.are leaves_apart equal top)

@@ -52,6 +52,7 @@ whole catalog query prepared sound handed typed bounded fresh fresh_folded no_ri
     let top = placed_there (schema_of catalog) [] (folded query) typed bounded no_right in
     let run = runnable catalog query prepared sound typed bounded no_right is in
     let bounds = scope.bounded catalog sound query prepared is bases typed.apart (one_node (folded query) fresh_folded) top in
+    let columns_known = scope.known catalog sound query prepared is bases typed.apart (one_node (folded query) fresh_folded) top in
     record {
       schema = schema_of catalog;
       scope = scope.all catalog sound query prepared is bases typed.apart (one_node (folded query) fresh_folded) top;
@@ -67,6 +68,7 @@ whole catalog query prepared sound handed typed bounded fresh fresh_folded no_ri
       named = names.named catalog sound query prepared is bases handed.apart (one_node query fresh) top;
       typed = λ number block low. record {
         typed = (run.types number block low).typed;
+        known = columns_known number block low;
         bounded = bounds number block low;
         outputs = (run.types number block low).outputs;
         conditions = (run.types number block low).conditions;

@@ -30,7 +30,7 @@ use Rattle.jp_problem.specs.Trees.{Scan, IsPlan}
 use Rattle.jp_tree.specs.declared.prepared.Block.{Block}
 use Rattle.jp_tree.specs.BlockParts.{own_columns, own_placeholders, outermost_ins, exprs_in, columns_named, placeholders_named, sublinks_of, in_sublinks_of, item_blocks, output_ty, HasRelation, IsOuterReference, named, passed_on, Uses, by_item, by_sublink}
 use Rattle.jp_tree.specs.Examples.{a_block, a_column, a_item, a_name, a_query, a_scan}
-use Rattle.jp_tree.specs.Prepared.{HasItsType, HasPlan, IsColumn, of_table, IsNamed, IsPlannable, IsTypedBlock, IsWhole, NamesColumn, NamesRelation, NamesRelations, Shows}
+use Rattle.jp_tree.specs.Prepared.{HasItsType, HasPlan, IsColumn, of_table, IsNamed, IsPlannable, IsTypedBlock, IsWhole, KnowsScope, NamesColumn, NamesRelation, NamesRelations, Shows}
 
 -- ---- the column
 
@@ -236,12 +236,16 @@ a_scan_is_whole = record {
   });
   typed = all_one a_block (IsTypedBlock schema scope) (record {
     typed = subst (All IsTypedExpr) (sym the_exprs) (all_one (col 0 0) IsTypedExpr (simp folds refl));
+    known = subst (All (KnowsScope schema scope)) (sym the_exprs) (all_one (col 0 0) (KnowsScope schema scope) known);
     bounded = subst (All (IsBoundedExpr schema scope)) (sym the_exprs) (all_one (col 0 0) (IsBoundedExpr schema scope) bounded);
     outputs = all_one a_column HasItsType (ap type_of the_expr ∙ its_type ∙ sym (ap (λ t. Some t) the_ty));
     conditions = all_none IsBoolean;
   });
 }
   where
+    known : KnowsScope schema scope (col 0 0)
+    known = simp folds refl
+
     bounded : IsBoundedExpr schema scope (col 0 0)
     bounded = simp folds refl
 

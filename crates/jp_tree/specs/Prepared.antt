@@ -1,9 +1,10 @@
 -- When a planned statement is whole.
-use Rattle.std.specs.Prelude.{◌≡◌, ℕ, ◌<◌, ◌==◌, Bool, [], ◌∷◌, map, length, find, All, Contains, Option, Some, IsSome, slice_get}
+use Rattle.std.specs.Prelude.{◌≡◌, ℕ, ◌<◌, ◌==◌, Bool, true, [], ◌∷◌, map, length, find, All, Contains, Option, Some, IsSome, slice_get}
 use Rattle.jp_base.specs.Sets.{Has}
 use Rattle.jp_base.specs.declared.values.Ty.{Ty}
+use Rattle.jp_query.specs.declared.Expr.{Expr}
 use Rattle.jp_query.specs.declared.Output.{Output}
-use Rattle.jp_query.specs.Conditions.{IsBoundedExpr}
+use Rattle.jp_query.specs.Conditions.{IsBoundedExpr, judged_expr, knows_columns}
 use Rattle.jp_query.specs.Outermost.{Outer}
 use Rattle.jp_query.specs.Parts.{ColumnRef}
 use Rattle.jp_query.specs.Scopes.{Column, Schema, Scope, bound_of, columns_of_table, visible_columns}
@@ -109,8 +110,13 @@ pub record Shows (schema : Schema) (prepared : Prepared) (scope : Scope) : Type 
 abbrev pub HasItsType : Output → Type 0
 HasItsType output = type_of (output_expr output) ≡ Some (output_ty output)
 
+-- each column in it, also in the queries of its sublinks, is one that is visible there, and has its type
+abbrev pub KnowsScope : Schema → Scope → Expr → Type 0
+KnowsScope schema scope e = (judged_expr schema knows_columns e).passes scope ≡ true
+
 pub record IsTypedBlock (schema : Schema) (scope : Scope) (block : Block) : Type 0 where
   pub typed : All IsTypedExpr (exprs_in block)
+  pub known : All (KnowsScope schema scope) (exprs_in block)
   pub bounded : All (IsBoundedExpr schema scope) (exprs_in block)
   pub outputs : All HasItsType block.columns
   pub conditions : All IsBoolean (conditions_in block)
