@@ -1,0 +1,2 @@
+mod SpecialKinds
+mod TreeLists
