@@ -1,3 +1,5 @@
 mod Clear
+mod FullJoins
+mod Relations
 mod SpecialKinds
 mod TreeLists
