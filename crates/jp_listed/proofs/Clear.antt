@@ -13,7 +13,7 @@ use Rattle.jp_query.specs.declared.JoinTree.TheVariants as tree
 use Rattle.jp_query.specs.declared.Order.{Order}
 use Rattle.jp_query.specs.declared.Output.{Output}
 use Rattle.jp_query.specs.declared.Query.{Query, out-Query}
-use Rattle.jp_query.specs.Conditions.{Leaves, no_leaves, beside, together, expr_leaves, tree_leaves, order_leaves, output_leaves, query_leaves, judged_leaves}
+use Rattle.jp_query.specs.Conditions.{Leaves, leaf, no_leaves, beside, together, expr_leaves, tree_leaves, order_leaves, output_leaves, query_leaves, judged_leaves}
 use Rattle.jp_query.specs.Layers.{ExprLayer}
 use Rattle.jp_query.specs.Meaning.{Env}
 use Rattle.jp_query.specs.Outermost.{Outer, outermost}
@@ -146,7 +146,7 @@ module _ (kind : JoinKind) (left right : JoinTree) (on : List Expr) where
       (sheltered_two [] (own_leaves left) [] (exprs_in (shape_of left)) no_leaves (tree_leaf_set left) (λ e. nothing_yet) (told left)) (told right))
       (sym (ap (λ (l : Leaves). l.apart) join_leaves) ∙ apart))
 
-  side_leaf : (rel : ℕ) (side : Leaves) → In side (tree_leaf_set left ∷ tree_leaf_set right ∷ []) → HasLeaf side rel → HasLeaf (tree_leaf_set (tree.Join kind left right on)) rel
+  pub side_leaf : (rel : ℕ) (side : Leaves) → In side (tree_leaf_set left ∷ tree_leaf_set right ∷ []) → HasLeaf side rel → HasLeaf (tree_leaf_set (tree.Join kind left right on)) rel
   side_leaf rel side m h = subst (λ l. HasLeaf l rel) (sym join_leaves) (of_first rel (together (tree_leaf_set left ∷ tree_leaf_set right ∷ [])) (together (map expr_leaf_set on)) (of_together rel (tree_leaf_set left ∷ tree_leaf_set right ∷ []) side m h))
 
 -- the block of a side has the leaves of the side
@@ -161,3 +161,9 @@ left_clear env kind left right on clear rel h = clear rel (side_leaf kind left r
 
 pub right_clear : (env : Env) (kind : JoinKind) (left right : JoinTree) (on : List Expr) → ClearOf env (tree_leaf_set (tree.Join kind left right on)) → IsClear env (side_block right)
 right_clear env kind left right on clear rel h = clear rel (side_leaf kind left right on rel (tree_leaf_set right) (inr (inl refl)) (side_leaves right rel h))
+
+-- ---- a sub-select
+
+pub select_clear : (env : Env) (rel : ℕ) (name : List ℕ) (query : Query) → ClearOf env (tree_leaf_set (tree.Sub rel name query)) → IsClear env query
+select_clear env rel name query clear n h =
+    clear n (subst (λ l. HasLeaf l n) (sym (laws.at-Sub Leaves Leaves Leaves Leaves Leaves expr_leaves tree_leaves order_leaves output_leaves query_leaves rel name query)) (of_second n (leaf rel) (judged_leaves query) h))

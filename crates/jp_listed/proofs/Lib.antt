@@ -1,5 +1,7 @@
 mod Clear
 mod FullJoins
+mod ItemRows
 mod Relations
 mod SpecialKinds
+mod Sublinks
 mod TreeLists
