@@ -1,3 +1,4 @@
+mod BlockGives
 mod Clear
 mod FullJoins
 mod ItemRows
