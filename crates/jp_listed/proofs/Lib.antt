@@ -1,5 +1,6 @@
 mod BlockGives
 mod Clear
+mod FoldedLines
 mod FullJoins
 mod ItemRows
 mod Relations
