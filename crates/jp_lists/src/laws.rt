@@ -1,14 +1,25 @@
 ghost use Rattle.std.specs.Prelude.{◌≡◌, ℕ, List, All, Contains, Some, map, slice_get};
 ghost use Rattle.jp_frame.specs.Maps.{Map};
 ghost use Rattle.jp_lists.specs.Lists.{list_of, listing, run_of_block, listed_block};
-ghost use Rattle.jp_lists.specs.Seen.{AreSeenAlike, FitsOutside};
+ghost use Rattle.jp_laws.specs.SameCells.{IsSameCell, IsSamePresence};
+ghost use Rattle.jp_lists.specs.Seen.{AreSeenAlike, FitsOutside, HasSameRows};
+ghost use Rattle.jp_query.specs.declared.Expr.{Expr};
 ghost use Rattle.jp_query.specs.Fitting.{IsCellAt};
-ghost use Rattle.jp_query.specs.Meaning.{Row, Env};
+ghost use Rattle.jp_query.specs.Meaning.{Row, Env, value_given};
+ghost use Rattle.jp_query.specs.Outermost.{outermost};
 ghost use Rattle.jp_query.specs.Tables.{TableRows, IsRowOf, Belong, rows_of_tables};
-ghost use Rattle.jp_tree.specs.BlockParts.{columns_named, IsBlockAt};
+ghost use Rattle.jp_tree.specs.BlockParts.{columns_named, own_columns, own_placeholders, IsBlockAt};
 ghost use Rattle.jp_tree.specs.Prepared.{IsWhole, output_column};
 ghost use Rattle.jp_tree.specs.declared.prepared.Block.{Block};
 ghost use Rattle.jp_tree.specs.declared.prepared.Prepared.{Prepared};
+
+/// A law: with given rows for its sublinks the value of an expression depends on the environment only by the cells of its
+/// columns and by which relations of its placeholders have a row, those in sublinks' queries aside, and on the rows.
+pub fn a_value_with_given_rows_depends_on_its_own_columns()
+    ensures { (rows : ℕ → List Row) (others : ℕ → List Row) (expr : Expr) (env : Env) (other : Env) →
+        All (IsSameCell env other) (own_columns expr) → All (IsSamePresence env other) (own_placeholders expr) → All (HasSameRows rows others) (outermost expr) →
+        value_given rows expr env ≡ value_given others expr other }
+{}
 
 /// A law: what a block lists depends on the environment around it by the cells of its outer references and by which
 /// relations of placeholders have a row, alone.
