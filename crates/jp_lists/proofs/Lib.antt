@@ -1,6 +1,8 @@
 pub mod Arounds
 pub mod BlocksAlike
+pub mod CellFacts
 pub mod GivenCells
+pub mod InParts
 pub mod SeenLaws
 pub mod Sublinks
 pub mod TreesAlike
