@@ -32,6 +32,14 @@ from_each P x [] h there = absurd there
 from_each P x (y ∷ xs) h (inl e) = subst P e h.0
 from_each P x (y ∷ xs) h (inr r) = from_each P x xs h.1 r
 
+pub at_in : {X : Type 0} (xs : List X) (k : ℕ) (x : X) → slice_get xs k ≡ Some x → In x xs
+at_in [] k x e = cc
+at_in (y ∷ xs) zero x e = inl (same y x e)
+  where
+    same : {X : Type 0} (y x : X) → Some y ≡ Some x → y ≡ x
+    same y x e = cc
+at_in (y ∷ xs) (suc k) x e = inr (at_in xs k x e)
+
 pub in_range : {X : Type 0} (xs : List X) (k : ℕ) (x : X) → slice_get xs k ≡ Some x → k < length xs
 in_range [] k x e = cc
 in_range (y ∷ xs) zero x e = omega arith

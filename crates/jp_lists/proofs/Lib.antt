@@ -1,6 +1,7 @@
 pub mod Arounds
 pub mod BlocksAlike
 pub mod CellFacts
+pub mod FitLaws
 pub mod GivenCells
 pub mod InParts
 pub mod SeenLaws
