@@ -2,6 +2,7 @@
 use Rattle.std.proofs.Common.{◌≡◌, ◌∙◌, ap, sym, subst, refl, ℕ, zero, suc, ◌+◌, ◌<◌, ◌≤◌, inl, inr, ◌⊎◌, List, [], ◌∷◌, map, length, Option, Some, None, is_some, eq-eqb, arith}
 use Rattle.std.specs.Prelude.{Contains, slice_get, if◌then◌else◌}
 use Rattle.std.specs.Int.{bit_at}
+use Rattle.std.specs.List.{flat_map}
 use Rattle.std.proofs.lemmas.Bool.{cases_eq, ne_eqb}
 use mathlib.Core.Path.{fun_ext}
 use Rattle.jp_base.specs.Sets.{Has, Within}
@@ -15,7 +16,7 @@ use Rattle.jp_problem.proofs.UnionLaws.{InSome, has_union}
 use Rattle.jp_frame.specs.Maps.{Map, at}
 use Rattle.jp_framed.specs.Environments.{source_at, row_at, env_from}
 use Rattle.jp_framed.proofs.MapRows.{overlaid, left_alone}
-use Rattle.jp_induction.proofs.EachPart.{Each}
+use Rattle.jp_induction.proofs.EachPart.{Each, each_append}
 use Rattle.jp_laws.specs.SameCells.{IsSameCell, IsSamePresence, AreTwins}
 use Rattle.jp_lists.specs.Lists.{only_rows, around_block}
 use Rattle.jp_tree.specs.BlockParts.{HasRelation}
@@ -31,6 +32,10 @@ pub from_each : {X : Type 0} (P : X → Type 0) (x : X) (xs : List X) → Each P
 from_each P x [] h there = absurd there
 from_each P x (y ∷ xs) h (inl e) = subst P e h.0
 from_each P x (y ∷ xs) h (inr r) = from_each P x xs h.1 r
+
+pub each_flat_map : {X Y : Type 0} (P : X → Type 0) (Q : Y → Type 0) (f : X → List Y) → ((x : X) → P x → Each Q (f x)) → (xs : List X) → Each P xs → Each Q (flat_map f xs)
+each_flat_map P Q f w [] h = tt
+each_flat_map P Q f w (x ∷ xs) h = each_append Q (f x) (flat_map f xs) (w x h.0) (each_flat_map P Q f w xs h.1)
 
 pub at_in : {X : Type 0} (xs : List X) (k : ℕ) (x : X) → slice_get xs k ≡ Some x → In x xs
 at_in [] k x e = cc

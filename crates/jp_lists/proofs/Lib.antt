@@ -4,6 +4,7 @@ pub mod CellFacts
 pub mod FitLaws
 pub mod GivenCells
 pub mod InParts
+pub mod MapFacts
 pub mod SeenLaws
 pub mod Sublinks
 pub mod TreesAlike

@@ -34,6 +34,7 @@ use Rattle.jp_joins.specs.Meant.{Meant, value_at, list_holds, is_match, kept, le
 use Rattle.jp_joins.specs.Sorting.{key_before, stands_before, merged_by, merged_list}
 use Rattle.jp_frame.specs.Methods.{right_first, sorted_by}
 use Rattle.jp_laws.proofs.TuplesFit.{each_filter}
+use Rattle.jp_lists.proofs.Arounds.{each_flat_map}
 use Rattle.jp_lists.specs.Steps.{Run, run_holds, scan_list, kind_of_step, filters_of, pair_of_sides, meant_of, method_list, tree_list}
 
 -- ---- the clauses of a stage
@@ -63,10 +64,6 @@ module _ (Ok : Expr → Type 0) where
   unfolding OkHead
   head_ok [] h = tt
   head_ok (m ∷ ms) h = h.0
-
-  each_flat_of : {X : Type 0} (P : X → Type 0) (f : X → List Expr) → ((x : X) → P x → Each Ok (f x)) → (xs : List X) → Each P xs → Each Ok (flat_map f xs)
-  each_flat_of P f w [] h = tt
-  each_flat_of P f w (x ∷ xs) h = each_append Ok (f x) (flat_map f xs) (w x h.0) (each_flat_of P f w xs h.1)
 
   pub flat_parts : {X : Type 0} (f : X → List Expr) (xs : List X) → Each Ok (flat_map f xs) → Each (λ x. Each Ok (f x)) xs
   flat_parts f [] h = tt
@@ -134,7 +131,7 @@ module _ (Ok : Expr → Type 0) where
 
       pub stage_ok : (stage : Stage) → Each Ok (clauses_of_stage problem stage)
       stage_ok stage = each_append Ok (flat_map (of_class stage) (filter (is_open_class problem.joins stage.whole) problem.classes)) (map expr_of (filter (stands_alone problem.joins stage) problem.clauses))
-          (each_flat_of (λ c. Each Ok (class_exprs c)) (of_class stage) (of_class_ok stage) (filter (is_open_class problem.joins stage.whole) problem.classes)
+          (each_flat_map (λ c. Each Ok (class_exprs c)) Ok (of_class stage) (of_class_ok stage) (filter (is_open_class problem.joins stage.whole) problem.classes)
           (each_filter (λ c. Each Ok (class_exprs c)) (is_open_class problem.joins stage.whole) problem.classes (flat_parts class_exprs problem.classes (each_right Ok ((of_items ++ of_joins) ++ of_clauses) of_classes all))))
           (each_map Ok expr_of (filter (stands_alone problem.joins stage) problem.clauses) (each_filter (λ c. Ok (expr_of c)) (stands_alone problem.joins stage) problem.clauses (each_mapped Ok expr_of problem.clauses (each_right Ok (of_items ++ of_joins) of_clauses no_classes))))
 
