@@ -1,5 +1,6 @@
 -- With given rows for its sublinks a value depends on the cells of an expression's own columns, on which relations of its own
 -- placeholders are present, and on these rows.
+use Rattle.std.specs.Prelude.{All}
 use Rattle.std.proofs.Common.{◌≡◌, ◌∙◌, ap, sym, subst, ℕ, List, [], ◌∷◌, ◌++◌, map, refl}
 use Rattle.jp_query.specs.declared.Expr.{Expr}
 use Rattle.jp_query.specs.declared.JoinTree.{JoinTree}
@@ -15,11 +16,12 @@ use Rattle.jp_query.specs.Operators.{among}
 use Rattle.jp_query.specs.Outermost.{Outer, Outers, outers_in, Level, outer_here, expr_outers, outermost}
 use Rattle.jp_query.specs.Parts.{all_in, parts, node_column, node_placeholder}
 use Rattle.jp_induction.proofs.Between.{SameValue, OwnSame, value_same}
-use Rattle.jp_induction.proofs.EachPart.{Each, each_left, each_right, each_both, each_in_all, each_mapped, parts_map}
+use Rattle.jp_induction.proofs.EachPart.{Each, each_left, each_right, each_both, each_in_all, each_mapped, each_of, parts_map}
 use Rattle.jp_induction.proofs.Induction.{expr_alone}
 use Rattle.jp_laws.specs.SameCells.{IsSameCell, IsSamePresence}
 use Rattle.jp_laws.proofs.OwnColumns.{own_has}
 use Rattle.jp_laws.proofs.TwinLaws.{any_same}
+use Rattle.jp_lists.specs.Seen.{HasSameRows}
 use Rattle.jp_tree.specs.BlockParts.{own_columns, own_placeholders, placeholder_level}
 
 -- ---- what a level and its parts have
@@ -78,23 +80,20 @@ abbrev given_query : (ℕ → List Row) → Query → RowsIn
 given_query rows = fold-Query ValueIn Tuples SortKey ValueIn RowsIn (expr_value (given rows)) (tree_tuples no_tables) order_key output_value query_rows
 
 module _ (rows others : ℕ → List Row) (env other : Env) where
-  abbrev pub IsSameList : Outer → Type 0
-  IsSameList sublink = rows sublink.number ≡ others sublink.number
-
   -- what the expression looks at is the same in both
   pub record Sees (e : Expr) : Type 0 where
     pub cells : Each (IsSameCell env other) (own_columns e)
     pub presence : Each (IsSamePresence env other) (own_placeholders e)
-    pub lists : Each IsSameList (outermost e)
+    pub lists : Each (HasSameRows rows others) (outermost e)
 
-  pub each_sees : (es : List Expr) → Each (λ e. Each (IsSameCell env other) (own_columns e)) es → Each (λ e. Each (IsSamePresence env other) (own_placeholders e)) es → Each (λ e. Each IsSameList (outermost e)) es → Each Sees es
+  pub each_sees : (es : List Expr) → Each (λ e. Each (IsSameCell env other) (own_columns e)) es → Each (λ e. Each (IsSamePresence env other) (own_placeholders e)) es → Each (λ e. Each (HasSameRows rows others) (outermost e)) es → Each Sees es
   each_sees [] a b c = tt
   each_sees (e ∷ es) a b c = (record { cells = a.0; presence = b.0; lists = c.0 }, each_sees es a.1 b.1 c.1)
 
   pub parts_see : (x : ExprLayer) → Sees (roll-Expr x) → Each Sees (parts x)
-  parts_see x s = each_sees (parts x) (own_has (IsSameCell env other) x s.cells).1 (places_have (IsSamePresence env other) x s.presence).1 (outers_have IsSameList x s.lists).1
+  parts_see x s = each_sees (parts x) (own_has (IsSameCell env other) x s.cells).1 (places_have (IsSamePresence env other) x s.presence).1 (outers_have (HasSameRows rows others) x s.lists).1
 
-  own : (x : ExprLayer) → Each (IsSameCell env other) (node_column x) → Each (IsSamePresence env other) (node_placeholder x) → Each IsSameList (outer_here (outer_level x))
+  own : (x : ExprLayer) → Each (IsSameCell env other) (node_column x) → Each (IsSamePresence env other) (node_placeholder x) → Each (HasSameRows rows others) (outer_here (outer_level x))
       → OwnSame (value_given rows) (value_given others) (given_tree rows) (given_tree others) (given_order rows) (given_order others) (given_output rows) (given_output others) (given_query rows) (given_query others) (given rows) (given others) env other x
   own (Expr-F.Col rel col ty nulled) c w q = c.0
   own (Expr-F.Place inner rels) c w q = any_same env other rels w.0
@@ -110,8 +109,16 @@ module _ (rows others : ℕ → List Row) (env other : Env) where
       ap (λ (v : ValueIn). v env) (fold-roll-Expr ValueIn Tuples SortKey ValueIn RowsIn (expr_value (given rows)) (tree_tuples no_tables) order_key output_value query_rows x)
       ∙ value_same (value_given rows) (value_given others) (given_tree rows) (given_tree others) (given_order rows) (given_order others) (given_output rows) (given_output others) (given_query rows) (given_query others) (given rows) (given others) env other x
       (each_both Good Sees (SameValue (value_given rows) (value_given others) env other) (λ y g h. g h) (parts x) good (parts_see x s))
-      (own x (own_has (IsSameCell env other) x s.cells).0 (places_have (IsSamePresence env other) x s.presence).0 (outers_have IsSameList x s.lists).0)
+      (own x (own_has (IsSameCell env other) x s.cells).0 (places_have (IsSamePresence env other) x s.presence).0 (outers_have (HasSameRows rows others) x s.lists).0)
       ∙ sym (ap (λ (v : ValueIn). v other) (fold-roll-Expr ValueIn Tuples SortKey ValueIn RowsIn (expr_value (given others)) (tree_tuples no_tables) order_key output_value query_rows x))
 
   pub value_by_sight : (e : Expr) → Good e
   value_by_sight = expr_alone Good step
+
+pub value_by_own : (rows others : ℕ → List Row) (e : Expr) (env other : Env) → All (IsSameCell env other) (own_columns e) → All (IsSamePresence env other) (own_placeholders e) → All (HasSameRows rows others) (outermost e)
+    → value_given rows e env ≡ value_given others e other
+value_by_own rows others e env other cells presence lists = value_by_sight rows others env other e (record {
+  cells = each_of (IsSameCell env other) (own_columns e) cells;
+  presence = each_of (IsSamePresence env other) (own_placeholders e) presence;
+  lists = each_of (HasSameRows rows others) (outermost e) lists;
+})

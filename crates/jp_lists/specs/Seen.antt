@@ -1,16 +1,16 @@
 -- What a block sees of the environment around it.
-use Rattle.std.specs.Prelude.{◌≡◌, ℕ, true, All, Contains}
+use Rattle.std.specs.Prelude.{◌≡◌, ◌⊎◌, ℕ, List, Contains}
+use Rattle.jp_eval.specs.Evaluation.{CanEvaluate}
 use Rattle.jp_query.specs.declared.Expr.{Expr}
-use Rattle.jp_query.specs.Conditions.{judged_expr, knows_columns}
-use Rattle.jp_query.specs.Meaning.{Env}
+use Rattle.jp_query.specs.Meaning.{Row, Env}
+use Rattle.jp_query.specs.Outermost.{Outer}
 use Rattle.jp_query.specs.Parts.{ColumnRef}
 use Rattle.jp_laws.specs.SameCells.{IsSameCell, IsSamePresence}
-use Rattle.jp_query.specs.Fitting.{IsCellAt}
-use Rattle.jp_query.specs.Scopes.{Scope}
+use Rattle.jp_query.specs.Fitting.{IsCellAt, IsRowFor}
+use Rattle.jp_query.specs.Scopes.{Scope, visible_columns}
 use Rattle.jp_tree.specs.declared.prepared.Block.{Block}
 use Rattle.jp_tree.specs.declared.prepared.Prepared.{Prepared}
-use Rattle.jp_tree.specs.BlockParts.{exprs_in, placeholders_named, IsBlockAt, Uses, IsOuterReference}
-use Rattle.jp_tree.specs.Prepared.{IsWhole}
+use Rattle.jp_tree.specs.BlockParts.{placeholders_named, IsBlockAt, Uses, IsOuterReference}
 
 -- the relations of a placeholder in the expressions of a block, or in those of a block that it uses
 pub data IsPlaceholderOf (prepared : Prepared) : ℕ → ℕ → Type 0 where
@@ -26,6 +26,14 @@ pub record AreSeenAlike (prepared : Prepared) (number : ℕ) (env other : Env) :
 abbrev pub FitsOutside : Prepared → Scope → ℕ → Env → Type 0
 FitsOutside prepared scope number env = (c : ColumnRef) → IsOuterReference prepared number c → IsCellAt scope env c
 
--- The columns of each expression are those of the scope, at every depth, in the queries of its sublinks too.
-abbrev pub KnowsAtDepth : (prepared : Prepared) → IsWhole prepared → Type 0
-KnowsAtDepth prepared whole = All (λ (block : Block). All (λ (e : Expr). (judged_expr whole.schema knows_columns e).passes whole.scope ≡ true) (exprs_in block)) prepared.blocks
+-- An environment that rows were put into: each relation has no row or one of its visible columns, or else what it had.
+abbrev pub IsInside : Scope → Env → Env → Type 0
+IsInside scope outer env = (rel : ℕ) → IsRowFor (visible_columns scope rel) (env rel) ⊎ (env rel ≡ outer rel)
+
+-- a sublink is given the same rows by both lists
+abbrev pub HasSameRows : (ℕ → List Row) → (ℕ → List Row) → Outer → Type 0
+HasSameRows rows others sublink = rows sublink.number ≡ others sublink.number
+
+-- an expression can be evaluated, with these rows for its sublinks
+abbrev pub IsEvaluated : (ℕ → List Row) → Env → Expr → Type 0
+IsEvaluated rows env e = CanEvaluate rows e env
