@@ -5,5 +5,6 @@ mod FullJoins
 mod ItemRows
 mod Relations
 mod SpecialKinds
+mod StatementLaws
 mod Sublinks
 mod TreeLists

@@ -4,6 +4,8 @@
 //! Each law is the contract of a function that does nothing.
 #![tactic(auto)]
 
+mod statements;
 mod trees;
 
+pub use statements::plans_list_what_the_statement_means;
 pub use trees::a_plan_lists_what_its_run_gives;
