@@ -1,7 +1,7 @@
 -- A block gives what its query means, where the blocks behind it do.
-use Rattle.std.proofs.Common.{◌≡◌, ◌∙◌, ap, ap₂, sym, subst, refl, ℕ, zero, suc, ◌+◌, ◌<◌, ◌≤◌, inl, inr, true, List, [], ◌∷◌, ◌++◌, map, length, Option, Some, None, eq-eqb, arith}
+use Rattle.std.proofs.Common.{◌≡◌, ◌∙◌, ap, ap₂, sym, subst, refl, ℕ, zero, suc, ◌+◌, ◌<◌, ◌≤◌, inl, inr, List, [], ◌∷◌, ◌++◌, map, length, Some, None, eq-eqb, arith}
 use mathlib.Core.Path.{fun_ext}
-use Rattle.std.specs.Prelude.{Contains, slice_get, if◌then◌else◌}
+use Rattle.std.specs.Prelude.{slice_get, if◌then◌else◌}
 use Rattle.std.specs.Int.{bit_at}
 use Rattle.std.specs.List.{AllZip, flat_map}
 use Rattle.std.specs.List.Sorted.{IsPermutation}
@@ -9,46 +9,43 @@ use Rattle.std.specs.Option.{option_map}
 use Rattle.std.proofs.lemmas.Bool.{ne_eqb}
 use Rattle.std.proofs.lemmas.Option.{get_or_from_slice_get, slice_get-map, slice_get_within}
 use Rattle.jp_base.specs.Sets.{Has}
-use Rattle.jp_facts.proofs.Members.{In, to_in, from_in, in_map, in_flat_map, in_append_left, in_append_right}
+use Rattle.jp_facts.proofs.Members.{In, to_in, in_map, in_flat_map, in_append_left, in_append_right}
 use Rattle.jp_catalog.specs.Sound.{IsSound}
 use Rattle.jp_catalog.specs.declared.types.Catalog.{Catalog}
 use Rattle.jp_query.specs.declared.Expr.{Expr}
 use Rattle.jp_query.specs.declared.JoinTree.{JoinTree}
-use Rattle.jp_query.specs.declared.Order.{Order, out-Order}
-use Rattle.jp_query.specs.declared.Output.{Output, out-Output}
+use Rattle.jp_query.specs.declared.Order.{Order}
+use Rattle.jp_query.specs.declared.Output.{Output}
 use Rattle.jp_query.specs.declared.Query.{Query, out-Query}
 use Rattle.jp_query.specs.Conditions.{IsTyped, IsBounded, judged_leaves}
 use Rattle.jp_query.specs.InOrder.{IsInOrder, output_of, key_of, direction_of, passing_tuples}
-use Rattle.jp_query.specs.Meaning.{Row, Env, ValueIn, SortKey, with_rows, without, value_at, key_at, line_at, value_of, tuples_of, meaning}
+use Rattle.jp_query.specs.Meaning.{Row, Env, with_rows, value_at, key_at, line_at, value_of, tuples_of, meaning}
 use Rattle.jp_query.specs.NoRight.{HasNoRight}
-use Rattle.jp_query.specs.Ordering.{Line, outputs_of, distinct_lines, sorted}
+use Rattle.jp_query.specs.Ordering.{outputs_of, distinct_lines, sorted}
 use Rattle.jp_query.specs.OwnLeaves.{own_leaves}
 use Rattle.jp_query.specs.Parts.{base_leaves_in}
 use Rattle.jp_query.specs.Refs.{only, union}
 use Rattle.jp_resolution.specs.Schemas.{schema_of}
 use Rattle.jp_laws.specs.Bags.{lines_at, rows_from}
 use Rattle.jp_folding.specs.Folding.{folded}
-use Rattle.jp_problem.specs.declared.types.Clause.{Clause}
 use Rattle.jp_problem.specs.declared.types.Item.{Item}
 use Rattle.jp_problem.specs.declared.types.Problem.{Problem}
-use Rattle.jp_problem.specs.declared.types.Special.{Special}
 use Rattle.jp_problem.specs.Blocks.{known_rels, item_rels, block_exprs, listed_exprs, output_expr, order_expr, outline_of}
 use Rattle.jp_problem.specs.InnerBlocks.{exprs_of_item}
-use Rattle.jp_problem.specs.Made.{IsBlock, IsMade, join_exprs}
+use Rattle.jp_problem.specs.Made.{join_exprs}
 use Rattle.jp_problem.specs.MinimumSets.{specials_in}
 use Rattle.jp_problem.specs.Problems.{clauses_in, problem_rels, problem_of}
 use Rattle.jp_problem.specs.StepClauses.{expr_of}
-use Rattle.jp_problem.specs.Shapes.{block_shape, shape_of, items_in, exprs_in}
+use Rattle.jp_problem.specs.Shapes.{block_shape, exprs_in}
 use Rattle.jp_problem.specs.Trees.{Tree, IsPlan}
-use Rattle.jp_conditions.proofs.Judging.{each_in, expr_leaf_set, tree_leaf_set}
-use Rattle.jp_conditions.proofs.Leaves.{HasLeaf}
+use Rattle.jp_conditions.proofs.Judging.{each_in, expr_leaf_set}
 use Rattle.jp_conditions.proofs.MadeLaws.{made_conditions}
 use Rattle.jp_conditions.proofs.Numbers.{from_place}
 use Rattle.jp_conditions.proofs.Sheltered.{Sheltered}
 use Rattle.jp_frame.specs.Maps.{Map}
 use Rattle.jp_frame.specs.Trees.{Tree as FrameTree, rows_of}
 use Rattle.jp_frame.proofs.Sets.{decide_has}
-use Rattle.jp_framed.specs.Environments.{Setting, Sublinks, env_from, env_of, source_at, HasNoOwnRows}
+use Rattle.jp_framed.specs.Environments.{Setting, env_from, env_of, source_at, HasNoOwnRows}
 use Rattle.jp_framed.specs.Framing.{frame_of}
 use Rattle.jp_framed.specs.Running.{IsRunOf, run_of, tuples_of_run}
 use Rattle.jp_framed.proofs.MadeLaws.{plain_without_classes}
@@ -57,7 +54,6 @@ use Rattle.jp_framed.proofs.RunLaws.{own_run}
 use Rattle.jp_spine.specs.ItemTuples.{in_place_over, HoldItems}
 use Rattle.jp_spine.specs.Written.{rels_of_number}
 use Rattle.jp_spine.proofs.TupleLaws.{orders_meant, orders_rows, orders_sorted}
-use Rattle.jp_tree.specs.declared.pool.PlanNode.{PlanNode}
 use Rattle.jp_tree.specs.declared.prepared.Block.{Block}
 use Rattle.jp_tree.specs.declared.prepared.Prepared.{Prepared}
 use Rattle.jp_tree.specs.PlanTrees.{tree_at}
@@ -67,7 +63,7 @@ use Rattle.jp_prepared.specs.Planned.{IsPrepared}
 use Rattle.jp_prepared.specs.Searched.{CanBeSearched}
 use Rattle.jp_prepared.specs.Sources.{Source, IsSourceAt, items_of_block}
 use Rattle.jp_prepared.proofs.ItemForms.{IsItemTree, items_formed}
-use Rattle.jp_prepared.proofs.Places.{TreePlaced, placed_there}
+use Rattle.jp_prepared.proofs.Places.{placed_there}
 use Rattle.jp_prepared.proofs.PreparedBlocks as blocks
 use Rattle.jp_prepared.proofs.ProblemExprs.{problem_exprs}
 use Rattle.jp_prepared.proofs.SearchLaws.{source_searched}

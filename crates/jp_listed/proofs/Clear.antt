@@ -1,7 +1,6 @@
 -- Relations of a query's leaves, at every depth, that have no row around it; and the relations of a block's items, which are
 -- those of no leaf inside one of its expressions.
 use Rattle.std.proofs.Common.{◌≡◌, ◌∙◌, ap, ap₂, sym, subst, refl, ℕ, inl, inr, true, false, List, [], ◌∷◌, ◌++◌, map, append-nil, None}
-use Rattle.std.specs.Prelude.{Contains}
 use Rattle.jp_facts.proofs.Members.{In, in_map, from_append, in_append_left, in_append_right}
 use Rattle.jp_induction.proofs.EachPart.{Each, parts_map, sublink_map}
 use Rattle.jp_query.specs.declared.Expr.{Expr}

@@ -1,5 +1,5 @@
 -- A folded query has the lines that it had, and what stands in its order stands in that of the query.
-use Rattle.std.proofs.Common.{◌≡◌, ◌∙◌, ap, ap₂, sym, subst, refl, ℕ, inl, inr, Bool, true, ◌&&◌, List, [], ◌∷◌, ◌++◌, map, filter, IsSome}
+use Rattle.std.proofs.Common.{◌≡◌, ◌∙◌, ap, ap₂, sym, subst, refl, ℕ, inl, inr, ◌&&◌, List, [], ◌∷◌, ◌++◌, map, filter}
 use Rattle.std.specs.List.{list_all}
 use Rattle.jp_base.specs.declared.truth.Truth.TheVariants.{True}
 use Rattle.jp_facts.proofs.Members.{In, from_filter}
@@ -13,11 +13,11 @@ use Rattle.jp_query.specs.declared.Output.{Output, out-Output, roll-out-Output, 
 use Rattle.jp_query.specs.declared.Query.{Query, out-Query, roll-out-Query, out-roll-Query}
 use Rattle.jp_query.specs.Conditions.{IsTyped}
 use Rattle.jp_query.specs.Fitting.{IsCellAt}
-use Rattle.jp_query.specs.InOrder.{IsInOrder, StandFor, output_of, key_of, direction_of, directions_of, lines_of}
+use Rattle.jp_query.specs.InOrder.{IsInOrder, StandFor, output_of, key_of, direction_of, lines_of}
 use Rattle.jp_query.specs.Layers.{OrderLayer, OutputLayer, QueryLayer}
 use Rattle.jp_query.specs.Meaning.{Row, Env, value_at, key_at, line_at, holds, value_of, tuples_of}
 use Rattle.jp_query.specs.Operators.{is_true, truth_of_value}
-use Rattle.jp_query.specs.Ordering.{Line, Direction, AreInOrder}
+use Rattle.jp_query.specs.Ordering.{Line, AreInOrder}
 use Rattle.jp_query.specs.Parts.{ColumnRef, node_column, columns_in, columns_in_query}
 use Rattle.jp_query.specs.Scopes.{Schema, Entry, Scope}
 use Rattle.jp_query.specs.Tables.{TableRows, Belong, rows_of_tables}

@@ -1,5 +1,5 @@
 -- A Full join by other tests and other sets of relations that come to the same on its tuples.
-use Rattle.std.proofs.Common.{◌≡◌, ◌∙◌, ap, ap₂, sym, refl, ℕ, ◌⊎◌, inl, inr, not, ◌||◌, cond, List, [], ◌∷◌, ◌++◌, map, filter, None, eq-eqb}
+use Rattle.std.proofs.Common.{◌≡◌, ◌∙◌, ap, ap₂, sym, refl, ℕ, inl, inr, not, ◌||◌, cond, List, [], ◌∷◌, ◌++◌, map, filter, None, eq-eqb}
 use mathlib.Core.Path.{fun_ext}
 use Rattle.std.specs.Prelude.{if◌then◌else◌}
 use Rattle.std.specs.Int.{bit_at}

@@ -1,11 +1,10 @@
 -- The rows that the plans give for an item of a block hold the item: seen at its relations they are its tuples.
-use Rattle.std.proofs.Common.{◌≡◌, ◌∙◌, ap, ap₂, sym, subst, refl, ℕ, ◌<◌, ◌==◌, inl, inr, true, false, List, [], ◌∷◌, ◌++◌, map, filter, Option, Some, None, eq-eqb}
+use Rattle.std.proofs.Common.{◌≡◌, ◌∙◌, ap, ap₂, sym, subst, refl, ℕ, ◌<◌, inl, inr, true, false, List, [], ◌∷◌, ◌++◌, map, filter, Some, None, eq-eqb}
 use mathlib.Core.Path.{fun_ext}
 use Rattle.std.specs.Prelude.{slice_get, if◌then◌else◌}
-use Rattle.std.specs.Int.{bit_at}
 use Rattle.std.specs.List.{flat_map}
 use Rattle.std.specs.List.Sorted.{IsPermutation}
-use Rattle.std.proofs.lemmas.Bool.{cases_eq, ne_eqb}
+use Rattle.std.proofs.lemmas.Bool.{ne_eqb}
 use Rattle.std.proofs.lemmas.List.Sorted.{IsPermutation-refl, IsPermutation-sym, IsPermutation-map}
 use Rattle.jp_base.specs.Sets.{Has}
 use Rattle.jp_facts.proofs.Members.{In, Distinct, in_append_left, in_append_right, in_flat_map}
@@ -17,8 +16,7 @@ use Rattle.jp_query.specs.declared.JoinKind.{JoinKind}
 use Rattle.jp_query.specs.declared.JoinKind.TheVariants as join
 use Rattle.jp_query.specs.declared.JoinTree.{JoinTree, out-JoinTree}
 use Rattle.jp_query.specs.declared.JoinTree.TheVariants as tree
-use Rattle.jp_query.specs.declared.Query.{Query, out-Query, out-roll-Query}
-use Rattle.jp_query.specs.Conditions.{Leaves}
+use Rattle.jp_query.specs.declared.Query.{Query, out-roll-Query}
 use Rattle.jp_query.specs.InOrder.{passing_tuples}
 use Rattle.jp_query.specs.Layers.{QueryLayer}
 use Rattle.jp_query.specs.Meaning.{Row, Env, Tuples, no_outer_rows, holds, with_row, with_rows, join_tuples, value_of, tuples_of, meaning}
@@ -31,12 +29,10 @@ use Rattle.jp_laws.proofs.JoinBags.{join_bag}
 use Rattle.jp_problem.specs.declared.types.Item.{Item}
 use Rattle.jp_problem.specs.Blocks.{known_rels, block_exprs}
 use Rattle.jp_problem.specs.InnerBlocks.{side_block, exprs_at, exprs_of_item}
-use Rattle.jp_problem.specs.Problems.{problem_rels}
 use Rattle.jp_problem.specs.Shapes.{shape_of, items_in, exprs_in}
 use Rattle.jp_problem.specs.Trees.{Tree}
 use Rattle.jp_conditions.proofs.Judging.{expr_leaf_set, tree_leaf_set}
 use Rattle.jp_conditions.proofs.Laying.{known_has}
-use Rattle.jp_conditions.proofs.Leaves.{HasLeaf}
 use Rattle.jp_conditions.proofs.Spans.{has_only, has_itself}
 use Rattle.jp_frame.proofs.Sets.{decide_has}
 use Rattle.jp_framed.proofs.MapRows.{overlaid, left_alone}
@@ -51,7 +47,7 @@ use Rattle.jp_prepared.proofs.CostBound.{as_written}
 use Rattle.jp_prepared.proofs.ItemForms.{IsItemTree, HasItemForm}
 use Rattle.jp_prepared.proofs.ItemLaws.{have_rels}
 use Rattle.jp_prepared.proofs.PreparedBlocks as blocks
-use Rattle.jp_lists.specs.Lists.{Listing, listed_value, only_rows, rels_of_some, rels_of_block, kind_source, item_source}
+use Rattle.jp_lists.specs.Lists.{Listing, listed_value, only_rows, rels_of_some, rels_of_block, item_source}
 use Rattle.jp_listed.proofs.Clear.{ClearOf, IsClear, join_sheltered, side_leaf, left_clear, right_clear, select_clear}
 use Rattle.jp_listed.proofs.FullJoins.{wide_rows, wide_without, full_same}
 use Rattle.jp_listed.proofs.Relations.{union_own, own_is_leaf, tuples_own, tuples_union}

@@ -19,8 +19,8 @@ use Rattle.jp_problem.specs.declared.types.Place.{Place}
 use Rattle.jp_problem.specs.declared.types.Special.{Special}
 use Rattle.jp_problem.specs.declared.types.Written.{Written}
 use Rattle.jp_problem.specs.Blocks.{behind, in_right_side, joins_at, outline_of, written, item_rels, top}
-use Rattle.jp_problem.specs.MinimumSets.{one_more, with_sets, specials_in, specials_of}
-use Rattle.jp_problem.specs.Shapes.{Shape, nothing, item, beside, filtered, special, together, joined, shape_of, block_shape}
+use Rattle.jp_problem.specs.MinimumSets.{one_more, with_sets, specials_in}
+use Rattle.jp_problem.specs.Shapes.{Shape, nothing, item, beside, filtered, special, joined, shape_of, block_shape}
 use Rattle.jp_problem.proofs.ShapeLaws.{at_base, at_sub, at_join, at_from}
 use Rattle.jp_conditions.proofs.Forms.{by_form}
 use Rattle.jp_framed.specs.Framing.{kind_of}

@@ -1,5 +1,5 @@
 -- What block 0 of a prepared statement lists.
-use Rattle.std.proofs.Common.{◌≡◌, ap, subst, refl, ℕ, List, []}
+use Rattle.std.proofs.Common.{◌≡◌, subst, refl, ℕ, List, []}
 use Rattle.std.specs.Prelude.{slice_get, Some}
 use Rattle.std.specs.List.Sorted.{IsPermutation}
 use Rattle.jp_catalog.specs.Sound.{IsSound}

@@ -1,18 +1,17 @@
 -- With the rows of its sublinks from the blocks behind, an expression of a block has the value that it has in place.
-use Rattle.std.proofs.Common.{◌≡◌, ◌∙◌, ap, sym, subst, refl, ℕ, zero, suc, ◌+◌, ◌<◌, ◌==◌, inl, inr, Bool, true, List, [], ◌∷◌, ◌++◌, map, Option, Some, None, eq-eqb, arith}
-use Rattle.std.specs.Prelude.{All, slice_get, if◌then◌else◌}
+use Rattle.std.proofs.Common.{◌≡◌, ◌∙◌, ap, sym, subst, refl, ℕ, zero, suc, ◌+◌, ◌<◌, List, [], ◌∷◌, ◌++◌, Option, Some, None, eq-eqb, arith}
+use Rattle.std.specs.Prelude.{slice_get, if◌then◌else◌}
 use Rattle.std.specs.List.{flat_map}
 use Rattle.std.specs.List.Sorted.{IsPermutation}
 use Rattle.std.proofs.lemmas.Bool.{ne_eqb}
 use Rattle.std.proofs.lemmas.List.Elements.{All-contains}
 use Rattle.std.proofs.lemmas.List.Sorted.{IsPermutation-sym}
 use Rattle.jp_facts.proofs.Members.{In, from_in, in_flat_map}
-use Rattle.jp_induction.proofs.EachPart.{Each, all_of_each}
+use Rattle.jp_induction.proofs.EachPart.{all_of_each}
 use Rattle.jp_catalog.specs.Sound.{IsSound}
 use Rattle.jp_catalog.specs.declared.types.Catalog.{Catalog}
 use Rattle.jp_query.specs.declared.Expr.{Expr}
 use Rattle.jp_query.specs.declared.Query.{Query}
-use Rattle.jp_query.specs.Conditions.{judged_leaves}
 use Rattle.jp_query.specs.InOrder.{IsInOrder, passing_tuples}
 use Rattle.jp_query.specs.Meaning.{Row, Env, meaning, value_of}
 use Rattle.jp_query.specs.Outermost.{Outer, outermost, IsGiven}

@@ -1,17 +1,15 @@
 -- A legal tree lists what a run of it gives in the frame of a setting in which its conditions have their values.
-use Rattle.std.proofs.Common.{◌≡◌, ◌∙◌, ap, ap₂, sym, subst, refl, ℕ, zero, suc, ◌<◌, inl, inr, Bool, true, false, ◌&&◌, List, [], ◌∷◌, ◌++◌, map, filter, length, Option, Some, None, eq-eqb, arith}
+use Rattle.std.proofs.Common.{◌≡◌, ◌∙◌, ap, ap₂, sym, subst, refl, ℕ, zero, suc, inl, inr, true, false, ◌&&◌, List, [], ◌∷◌, ◌++◌, map, filter, length, Option, Some, None, eq-eqb, arith}
 use mathlib.Core.Path.{fun_ext}
 use Rattle.std.specs.Prelude.{IsSome, if◌then◌else◌}
 use Rattle.std.specs.List.{flat_map}
 use Rattle.std.specs.Option.{option_map}
 use Rattle.std.proofs.lemmas.Bool.{cases_eq, ne_eqb}
-use Rattle.jp_facts.proofs.Members.{In, to_in, from_in, from_map, from_filter}
+use Rattle.jp_facts.proofs.Members.{In, from_in, from_map, from_filter}
 use Rattle.jp_query.specs.declared.Expr.{Expr}
-use Rattle.jp_query.specs.declared.JoinKind.TheVariants as join
 use Rattle.jp_query.specs.declared.Query.{Query}
 use Rattle.jp_query.specs.Meaning.{Row, Env, ValueIn, holds, value_given}
 use Rattle.jp_query.specs.Operators.{is_true, truth_of_value}
-use Rattle.jp_problem.specs.declared.types.Clause.{Clause}
 use Rattle.jp_problem.specs.declared.types.Item.{Item}
 use Rattle.jp_problem.specs.declared.types.Method.{Method}
 use Rattle.jp_problem.specs.declared.types.Method.TheVariants as method
@@ -20,7 +18,6 @@ use Rattle.jp_problem.specs.declared.types.Special.{Special}
 use Rattle.jp_problem.specs.declared.types.Stage.{Stage}
 use Rattle.jp_problem.specs.declared.types.Step.{Step}
 use Rattle.jp_problem.specs.declared.types.Step.TheVariants as step
-use Rattle.jp_problem.specs.Blocks.{outline_of}
 use Rattle.jp_problem.specs.Conditions.{MeetsConditions}
 use Rattle.jp_problem.specs.Equalities.{Sides}
 use Rattle.jp_problem.specs.Keys.{key_of, IsAllowed, on_of}
@@ -40,14 +37,14 @@ use Rattle.jp_frame.specs.Trees.{rows_of}
 use Rattle.jp_framed.specs.Environments.{Setting, value_by, source_at, env_of}
 use Rattle.jp_framed.specs.Framing.{kind_of, join_at, frame_of}
 use Rattle.jp_framed.specs.Framing as framing
-use Rattle.jp_framed.specs.Running.{HasNoClasses, step_of, step_clauses_hold, scan_clauses_hold, run_of, method_of}
+use Rattle.jp_framed.specs.Running.{HasNoClasses, step_of, step_clauses_hold, run_of, method_of}
 use Rattle.jp_framed.proofs.FrameLaws.{numbered_at}
 use Rattle.jp_framed.proofs.MadeLaws.{plain_without_classes}
 use Rattle.jp_joins.specs.Frames.{IsSameKind}
 use Rattle.jp_joins.specs.Meant.{Meant, is_match, list_holds, plain_list}
 use Rattle.jp_joins.specs.Sorting.{merged_list}
 use Rattle.jp_joins.proofs.FrameFacts.{plain_inner, plain_by, right_by, merged_is}
-use Rattle.jp_lists.specs.Steps.{Run, run_holds, scan_list, meant_of, method_list, tree_list, pair_of_sides, kind_of_join}
+use Rattle.jp_lists.specs.Steps.{Run, run_holds, meant_of, method_list, tree_list, pair_of_sides, kind_of_join}
 use Rattle.jp_listed.specs.Plans.{run_in, HasItsValue, HaveTheirValues, by_first, by_second, key_orders}
 use Rattle.jp_listed.proofs.SpecialKinds.{IsSpecial, specials_special}
 

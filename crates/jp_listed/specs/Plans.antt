@@ -5,7 +5,6 @@ use Rattle.jp_query.specs.Meaning.{Row, Env, value_given}
 use Rattle.jp_problem.specs.declared.types.Clause.{Clause}
 use Rattle.jp_problem.specs.declared.types.Problem.{Problem}
 use Rattle.jp_problem.specs.declared.types.Special.{Special}
-use Rattle.jp_problem.specs.declared.types.Step.{Step}
 use Rattle.jp_problem.specs.Equalities.{Sides}
 use Rattle.jp_problem.specs.Keys.{key_of}
 use Rattle.jp_problem.specs.Problems.{problem_rels}
