@@ -1,0 +1,10 @@
+mod BlockGives
+mod Clear
+mod FoldedLines
+mod FullJoins
+mod ItemRows
+mod Relations
+mod SpecialKinds
+mod StatementLaws
+mod Sublinks
+mod TreeLists

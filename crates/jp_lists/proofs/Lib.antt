@@ -1,0 +1,11 @@
+pub mod Arounds
+pub mod BlocksAlike
+pub mod CellFacts
+pub mod FitLaws
+pub mod GivenCells
+pub mod InParts
+pub mod MapFacts
+pub mod SeenLaws
+pub mod Sublinks
+pub mod TreesAlike
+pub mod Unfolds

@@ -1,0 +1,39 @@
+-- What a block sees of the environment around it.
+use Rattle.std.specs.Prelude.{◌≡◌, ◌⊎◌, ℕ, List, Contains}
+use Rattle.jp_eval.specs.Evaluation.{CanEvaluate}
+use Rattle.jp_query.specs.declared.Expr.{Expr}
+use Rattle.jp_query.specs.Meaning.{Row, Env}
+use Rattle.jp_query.specs.Outermost.{Outer}
+use Rattle.jp_query.specs.Parts.{ColumnRef}
+use Rattle.jp_laws.specs.SameCells.{IsSameCell, IsSamePresence}
+use Rattle.jp_query.specs.Fitting.{IsCellAt, IsRowFor}
+use Rattle.jp_query.specs.Scopes.{Scope, visible_columns}
+use Rattle.jp_tree.specs.declared.prepared.Block.{Block}
+use Rattle.jp_tree.specs.declared.prepared.Prepared.{Prepared}
+use Rattle.jp_tree.specs.BlockParts.{placeholders_named, IsBlockAt, Uses, IsOuterReference}
+
+-- the relations of a placeholder in the expressions of a block, or in those of a block that it uses
+pub data IsPlaceholderOf (prepared : Prepared) : ℕ → ℕ → Type 0 where
+  named : {number rels : ℕ} (block : Block) → IsBlockAt prepared number block → Contains (placeholders_named block) rels → IsPlaceholderOf prepared number rels
+  passed_on : {number rels : ℕ} (block : Block) (inner : ℕ) → IsBlockAt prepared number block → Uses prepared block inner → IsPlaceholderOf prepared inner rels → IsPlaceholderOf prepared number rels
+
+-- a block sees the same cells in both environments, and the same relations of placeholders
+pub record AreSeenAlike (prepared : Prepared) (number : ℕ) (env other : Env) : Type 0 where
+  pub cells : (c : ColumnRef) → IsOuterReference prepared number c → IsSameCell env other c
+  pub presence : (rels : ℕ) → IsPlaceholderOf prepared number rels → IsSamePresence env other rels
+
+-- the cell of each outer reference of a block is NULL or of its type and within its bound
+abbrev pub FitsOutside : Prepared → Scope → ℕ → Env → Type 0
+FitsOutside prepared scope number env = (c : ColumnRef) → IsOuterReference prepared number c → IsCellAt scope env c
+
+-- An environment that rows were put into: each relation has no row or one of its visible columns, or else what it had.
+abbrev pub IsInside : Scope → Env → Env → Type 0
+IsInside scope outer env = (rel : ℕ) → IsRowFor (visible_columns scope rel) (env rel) ⊎ (env rel ≡ outer rel)
+
+-- a sublink is given the same rows by both lists
+abbrev pub HasSameRows : (ℕ → List Row) → (ℕ → List Row) → Outer → Type 0
+HasSameRows rows others sublink = rows sublink.number ≡ others sublink.number
+
+-- an expression can be evaluated, with these rows for its sublinks
+abbrev pub IsEvaluated : (ℕ → List Row) → Env → Expr → Type 0
+IsEvaluated rows env e = CanEvaluate rows e env

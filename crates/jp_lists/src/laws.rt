@@ -1,0 +1,66 @@
+ghost use Rattle.std.specs.Prelude.{◌≡◌, ℕ, List, All, Contains, map};
+ghost use Rattle.jp_frame.specs.Maps.{Map};
+ghost use Rattle.jp_lists.specs.Lists.{list_of, listing, sublink_rows, around_block, run_of_block, listed_block};
+ghost use Rattle.jp_laws.specs.SameCells.{IsSameCell, IsSamePresence};
+ghost use Rattle.jp_lists.specs.Seen.{AreSeenAlike, FitsOutside, IsInside, IsEvaluated, HasSameRows};
+ghost use Rattle.jp_query.specs.declared.Expr.{Expr};
+ghost use Rattle.jp_query.specs.Meaning.{Row, Env, value_given, with_rows};
+ghost use Rattle.jp_query.specs.Outermost.{outermost};
+ghost use Rattle.jp_query.specs.Scopes.{Scope};
+ghost use Rattle.jp_query.specs.Tables.{TableRows, IsRowOf, Belong, rows_of_tables};
+ghost use Rattle.jp_tree.specs.BlockParts.{exprs_in, own_columns, own_placeholders, item_blocks, IsBlockAt, Uses};
+ghost use Rattle.jp_tree.specs.Prepared.{IsWhole, output_column};
+ghost use Rattle.jp_tree.specs.declared.prepared.Block.{Block};
+ghost use Rattle.jp_tree.specs.declared.prepared.Prepared.{Prepared};
+
+/// A law: with given rows for its sublinks the value of an expression depends on the environment only by the cells of its
+/// columns and by which relations of its placeholders have a row, those in sublinks' queries aside, and on the rows.
+pub fn a_value_with_given_rows_depends_on_its_own_columns()
+    ensures { (rows : ℕ → List Row) (others : ℕ → List Row) (expr : Expr) (env : Env) (other : Env) →
+        All (IsSameCell env other) (own_columns expr) → All (IsSamePresence env other) (own_placeholders expr) → All (HasSameRows rows others) (outermost expr) →
+        value_given rows expr env ≡ value_given others expr other }
+{}
+
+/// A law: what a block lists depends on the environment around it by the cells of its outer references and by which
+/// relations of placeholders have a row, alone.
+pub fn a_list_depends_on_what_its_block_sees()
+    ensures rows { (prepared : Prepared) (tables : ℕ → List Row) (number : ℕ) (env : Env) (other : Env) →
+        IsWhole prepared → AreSeenAlike prepared number env other → list_of prepared tables number env ≡ list_of prepared tables number other }
+{}
+
+/// A law: where the outer references of a block fit, its rows have one value for each output, NULL or of the output's type
+/// and a number within its bound. Its tuples, and the environments of any maps of its items, give each relation no row or one
+/// of its visible columns, and the others what they have around the block.
+pub fn lists_fit()
+    ensures rows { (prepared : Prepared) (whole : IsWhole prepared) (tables : TableRows) (number : ℕ) (block : Block) (env : Env) →
+        Belong whole.schema tables → IsBlockAt prepared number block → FitsOutside prepared whole.scope number env →
+        All (IsRowOf (map (output_column whole.schema whole.scope) block.columns)) (list_of prepared (rows_of_tables tables) number env) }
+    ensures tuples { (prepared : Prepared) (whole : IsWhole prepared) (tables : TableRows) (number : ℕ) (block : Block) (env : Env) →
+        Belong whole.schema tables → IsBlockAt prepared number block → FitsOutside prepared whole.scope number env →
+        All (IsInside whole.scope env) (listing prepared (rows_of_tables tables) number env).tuples }
+    ensures maps { (prepared : Prepared) (whole : IsWhole prepared) (tables : TableRows) (number : ℕ) (block : Block) (env : Env) (m : Map) →
+        Belong whole.schema tables → IsBlockAt prepared number block → FitsOutside prepared whole.scope number env →
+        IsInside whole.scope (around_block block env) ((run_of_block prepared.blocks (rows_of_tables tables) (listing prepared (rows_of_tables tables)) env block).environment m) }
+{}
+
+/// A law: where the outer references of a block fit, those of the blocks that it uses fit too, around it for its items and
+/// inside it for its sublinks; and inside it each of its expressions can be evaluated, with the rows that the blocks of its
+/// sublinks give there. The pair of two tuples that are inside is inside.
+pub fn what_a_block_evaluates_fits()
+    ensures items { (prepared : Prepared) (whole : IsWhole prepared) (number : ℕ) (inner : ℕ) (block : Block) (env : Env) →
+        IsBlockAt prepared number block → FitsOutside prepared whole.scope number env → Contains (item_blocks block) inner →
+        FitsOutside prepared whole.scope inner (around_block block env) }
+    ensures behind { (prepared : Prepared) (whole : IsWhole prepared) (number : ℕ) (inner : ℕ) (block : Block) (env : Env) (inside : Env) →
+        IsBlockAt prepared number block → FitsOutside prepared whole.scope number env → IsInside whole.scope (around_block block env) inside → Uses prepared block inner →
+        FitsOutside prepared whole.scope inner inside }
+    ensures values { (prepared : Prepared) (whole : IsWhole prepared) (tables : TableRows) (number : ℕ) (block : Block) (env : Env) (inside : Env) →
+        Belong whole.schema tables → IsBlockAt prepared number block → FitsOutside prepared whole.scope number env → IsInside whole.scope (around_block block env) inside →
+        All (IsEvaluated (sublink_rows prepared.blocks (listing prepared (rows_of_tables tables)) inside) inside) (exprs_in block) }
+    ensures pairs { (scope : Scope) (outer : Env) (left : Env) (right : Env) (rels : ℕ) → IsInside scope outer left → IsInside scope outer right → IsInside scope outer (with_rows rels left right) }
+{}
+
+/// A law: what a block gives is made of what the blocks behind it give.
+pub fn a_block_gives_what_its_plan_lists()
+    ensures { (prepared : Prepared) (tables : ℕ → List Row) (number : ℕ) (block : Block) (env : Env) → IsWhole prepared → IsBlockAt prepared number block →
+        listing prepared tables number env ≡ listed_block prepared.blocks prepared.pool.nodes tables (listing prepared tables) block env }
+{}

@@ -1,0 +1,11 @@
+//! What the plans of a prepared statement list, and laws on these lists.
+//!
+//! Each law is the contract of a function that does nothing.
+#![tactic(auto)]
+
+mod laws;
+
+pub use laws::{
+    a_block_gives_what_its_plan_lists, a_list_depends_on_what_its_block_sees,
+    a_value_with_given_rows_depends_on_its_own_columns, lists_fit, what_a_block_evaluates_fits,
+};
