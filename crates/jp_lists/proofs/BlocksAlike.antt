@@ -43,7 +43,8 @@ use Rattle.jp_lists.specs.Lists.{Listed, Listing, sublink_rows, listed_value, on
 use Rattle.jp_lists.specs.Seen.{HasSameRows}
 use Rattle.jp_lists.specs.Steps.{Run, tree_list}
 use Rattle.jp_lists.proofs.GivenCells.{Sees, parts_see, value_by_sight}
-use Rattle.jp_lists.proofs.TreesAlike.{IsOkPair, IsKept, IsSameAt, flat_parts, trees_same}
+use Rattle.jp_lists.proofs.StageLaws.{IsPair}
+use Rattle.jp_lists.proofs.TreesAlike.{IsSameAt, trees_same}
 use Rattle.jp_tree.specs.BlockParts.{exprs_in, own_columns, column_level, own_placeholders, placeholder_level, blocks_of_kind, blocks_of_item, item_blocks}
 use Rattle.jp_tree.specs.declared.pool.PlanNode.{PlanNode}
 use Rattle.jp_tree.specs.declared.prepared.Block.{Block}
@@ -87,18 +88,18 @@ module _ (blocks : List Block) (tables : ℕ → List Row) (inner inner' : Listi
     abbrev Ok : Expr → Type 0
     Ok e = (n : ℕ) (x y : Env) → N n x y → Sees (sublink_rows blocks inner x) (sublink_rows blocks inner' y) x y e
 
-    sides_ok : (x : ExprLayer) → Ok (roll-Expr x) → IsOkPair Ok (sides_at x)
+    sides_ok : (x : ExprLayer) → Ok (roll-Expr x) → IsPair Ok (sides_at x)
     sides_ok (Expr-F.Compare cmp.Eq a b) h = (
       λ n x y t. (parts_see (sublink_rows blocks inner x) (sublink_rows blocks inner' y) x y (Expr-F.Compare cmp.Eq a b) (h n x y t)).0,
       λ n x y t. (parts_see (sublink_rows blocks inner x) (sublink_rows blocks inner' y) x y (Expr-F.Compare cmp.Eq a b) (h n x y t)).1.0,
     )
     sides_ok x h = tt
 
-    is_kept : IsKept Ok
-    is_kept = record {
-      up = λ a b p q n x y t. equality_sees (sublink_rows blocks inner x) (sublink_rows blocks inner' y) x y a b (p n x y t) (q n x y t);
-      down = λ e h. sides_ok (out-Expr e) (subst Ok (sym (roll-out-Expr e)) h);
-    }
+    up : (a b : Expr) → Ok a → Ok b → Ok (equals a b)
+    up a b p q n x y t = equality_sees (sublink_rows blocks inner x) (sublink_rows blocks inner' y) x y a b (p n x y t) (q n x y t)
+
+    down : (e : Expr) → Ok e → IsPair Ok (sides_of e)
+    down e h = sides_ok (out-Expr e) (subst Ok (sym (roll-out-Expr e)) h)
 
     each_ok : (es : List Expr) → ((e : Expr) → In e es → In e (exprs_in block)) → Each Ok es
     each_ok [] w = tt
@@ -176,7 +177,7 @@ module _ (blocks : List Block) (tables : ℕ → List Row) (inner inner' : Listi
     module _ (nodes : List PlanNode) where
       pub tuples_alike : Alike (N own) (tuples_of_block blocks nodes tables inner outer block) (tuples_of_block blocks nodes tables inner' outer' block)
       tuples_alike = subst (λ ms. Alike (N own) (map run.environment (tree_list run block.problem (tree_at nodes block.plan))) (map run'.environment ms))
-          (trees_same run run' block.problem Ok is_kept same_in_runs problem_ok sources (tree_at nodes block.plan)) (alike_maps (tree_list run block.problem (tree_at nodes block.plan)))
+          (trees_same run run' block.problem Ok up down same_in_runs problem_ok sources (tree_at nodes block.plan)) (alike_maps (tree_list run block.problem (tree_at nodes block.plan)))
 
       outputs_same : (columns : List Output) → Each Ok (map output_expr columns) → (x y : Env) → N own x y → map (value_at x) (map (listed_output blocks inner) columns) ≡ map (value_at y) (map (listed_output blocks inner') columns)
       outputs_same [] ok x y t = refl

@@ -1,11 +1,14 @@
 pub mod Arounds
 pub mod BlocksAlike
 pub mod CellFacts
+pub mod ClassTypes
 pub mod FitLaws
 pub mod GivenCells
 pub mod InParts
 pub mod MapFacts
 pub mod SeenLaws
+pub mod SpecialKinds
+pub mod StageLaws
 pub mod Sublinks
 pub mod TreesAlike
 pub mod Unfolds
