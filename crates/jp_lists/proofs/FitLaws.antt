@@ -161,7 +161,7 @@ module _ (prepared : Prepared) (whole : IsWhole prepared) where
             (subst (λ n. Each (IsRowOfTypes (typed_query o.query).outputs) (lists n x).rows) (sym (sublink_place prepared number o.number one))
             (subst (λ ts. Each (IsRowOfTypes ts) (lists one.place x).rows) same rows))
 
-        expr_fits : (x : Env) → IsInside scope around x → (e : Expr) → In e (exprs_in block) → FitsLent scope (sublink_rows prepared.blocks lists x) e x
+        pub expr_fits : (x : Env) → IsInside scope around x → (e : Expr) → In e (exprs_in block) → FitsLent scope (sublink_rows prepared.blocks lists x) e x
         expr_fits x f e h = record {
           cells = all_of_each (IsCellAt scope x) (own_columns e) (each_from (IsCellAt scope x) (own_columns e) (λ c r. inside_fits x f c (λ out. fits c (named block there (from_in c (columns_named block) (in_flat_map own_columns e c (exprs_in block) h r)) out))));
           lent = all_of_each (IsLent (sublink_rows prepared.blocks lists x)) (own_ins e) (own_ins_have (IsLent (sublink_rows prepared.blocks lists x)) e
@@ -169,7 +169,7 @@ module _ (prepared : Prepared) (whole : IsWhole prepared) where
               (in_flat_map outermost e o (exprs_in block) h (from_each (λ o. In o (outermost e)) o (outermost_ins e) (ins_are_outermost e) r)))));
         }
 
-        of_block : IsTypedBlock whole.schema scope block
+        pub of_block : IsTypedBlock whole.schema scope block
         of_block = each_at (IsTypedBlock whole.schema scope) prepared.blocks number block there (each_of (IsTypedBlock whole.schema scope) prepared.blocks whole.typed)
 
         module _ {X : Type 0} where

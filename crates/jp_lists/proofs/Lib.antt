@@ -2,9 +2,11 @@ pub mod Arounds
 pub mod BlocksAlike
 pub mod CellFacts
 pub mod ClassTypes
+pub mod EqualityFacts
 pub mod FitLaws
 pub mod GivenCells
 pub mod InParts
+pub mod KeyFacts
 pub mod MapFacts
 pub mod SeenLaws
 pub mod SpecialKinds
