@@ -320,7 +320,7 @@ pub tuples_inside : (prepared : Prepared) (whole : IsWhole prepared) (tables : T
 tuples_inside prepared whole tables number block env belong there fits = all_of_each (IsInside whole.scope env) (listing prepared (rows_of_tables tables) number env).tuples (fitting prepared whole tables belong number env fits block there).tuples
 
 module _ (prepared : Prepared) (whole : IsWhole prepared) (tables : TableRows) (number : ℕ) (block : Block) (env : Env) (belong : Belong whole.schema tables) (there : IsBlockAt prepared number block) (fits : FitsOutside prepared whole.scope number env) where
-  behind_fits : (n : ℕ) → number < n → n < length prepared.blocks → (x : Env) → FitsOutside prepared whole.scope n x → (at : Block) → IsBlockAt prepared n at → Fitting prepared whole tables n at x
+  pub behind_fits : (n : ℕ) → number < n → n < length prepared.blocks → (x : Env) → FitsOutside prepared whole.scope n x → (at : Block) → IsBlockAt prepared n at → Fitting prepared whole tables n at x
   behind_fits n low less x f at is = fitting prepared whole tables belong n x f at is
 
   pub map_is_inside : (m : Map) → IsInside whole.scope (around_block block env) ((run_of_block prepared.blocks (rows_of_tables tables) (listing prepared (rows_of_tables tables)) env block).environment m)

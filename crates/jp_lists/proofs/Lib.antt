@@ -11,6 +11,7 @@ pub mod MapFacts
 pub mod SeenLaws
 pub mod SpecialKinds
 pub mod StageLaws
+pub mod StepLaws
 pub mod Sublinks
 pub mod TreesAlike
 pub mod Unfolds
