@@ -1,5 +1,5 @@
 -- The expressions of each class of a made problem have one type.
-use Rattle.std.proofs.Common.{◌≡◌, ◌∙◌, ap, sym, subst, refl, ℕ, inl, inr, ◌⊎◌, List, [], ◌∷◌, ◌++◌, map, fold, length, Option, Some, None}
+use Rattle.std.proofs.Common.{◌≡◌, ◌∙◌, ap, sym, subst, refl, ℕ, inl, inr, ◌⊎◌, List, [], ◌∷◌, map, fold, length, Option, Some, None}
 use Rattle.jp_base.specs.declared.values.Ty.{Ty}
 use Rattle.jp_base.specs.declared.values.Ty.TheVariants as ty
 use Rattle.jp_facts.proofs.Members.{In, from_append, from_map}
@@ -18,7 +18,7 @@ use Rattle.jp_problem.specs.Problems.{AreItemsOf, rels_of_item, clauses_in, prob
 use Rattle.jp_problem.specs.Sets.{span}
 use Rattle.jp_conditions.proofs.Bounds.{Laid}
 use Rattle.jp_conditions.proofs.Carrying.{AllGood, regions_good}
-use Rattle.jp_conditions.proofs.Deriving.{Listed, classes_good}
+use Rattle.jp_conditions.proofs.Deriving.{classes_good}
 use Rattle.jp_conditions.proofs.LaidBlocks.{laid, low}
 use Rattle.jp_conditions.proofs.WithClasses.{first_good, all_good}
 use Rattle.jp_induction.proofs.EachPart.{Each}

@@ -1,7 +1,5 @@
 -- An equality can be evaluated where its sides can be and have one type, and its sides where it can be.
-use Rattle.std.proofs.Common.{◌≡◌, ◌∙◌, ap, sym, subst, refl, Bool, true, ◌&&◌, List, [], ◌∷◌, ◌++◌, map, Some, ℕ}
-use Rattle.std.specs.Prelude.{All}
-use Rattle.jp_base.specs.declared.values.Ty.TheVariants as ty
+use Rattle.std.proofs.Common.{◌≡◌, sym, subst, refl, true, ◌&&◌, List, [], ◌∷◌, ◌++◌, ℕ}
 use Rattle.jp_query.specs.declared.CmpOp.TheVariants as cmp
 use Rattle.jp_query.specs.declared.Expr.{Expr, out-Expr}
 use Rattle.jp_query.specs.declared.JoinTree.{JoinTree}
@@ -14,12 +12,12 @@ use Rattle.jp_query.specs.declared.Expr.TheViews.{roll-Expr, roll-out-Expr}
 use Rattle.jp_query.specs.declared.Expr.TheFolds.{map-Expr, fold-roll-Expr}
 use Rattle.jp_query.specs.Layers.{ExprLayer}
 use Rattle.jp_query.specs.Conditions.{Tests, Judged, ExprLevel, expr_judged, tree_judged, order_judged, output_judged, query_judged, judged_expr, judged_tree, judged_query, knows_columns, keeps_bounds, IsBoundedExpr}
-use Rattle.jp_query.specs.Fitting.{IsCellAt, own_columns, expr_own_columns, IsLent, own_ins, FitsLent}
+use Rattle.jp_query.specs.Fitting.{IsCellAt, own_columns, expr_own_columns, IsLent, own_ins}
 use Rattle.jp_query.specs.Meaning.{Row, Env}
 use Rattle.jp_query.specs.Parts.{ColumnRef, parts}
 use Rattle.jp_query.specs.Scopes.{Schema, Scope, Entry, Column}
-use Rattle.jp_problem.specs.Equalities.{Sides, sides_at, sides_of, equals}
-use Rattle.jp_induction.proofs.EachPart.{Each, each_of, all_of_each, each_append, each_mapped, parts_map}
+use Rattle.jp_problem.specs.Equalities.{sides_at, sides_of, equals}
+use Rattle.jp_induction.proofs.EachPart.{Each, each_append, each_mapped, parts_map}
 use Rattle.jp_laws.proofs.JudgedLaws.{expr_passes, judged_order_by, judged_output_by}
 use Rattle.jp_laws.proofs.OwnColumns.{own_has}
 use Rattle.jp_lists.proofs.InParts.{parts_have_ins, ins_from_parts}

@@ -1,24 +1,21 @@
 -- Rows, tuples and environments of a block fit where its outer references do.
 use Rattle.std.proofs.Common.{◌≡◌, ◌∙◌, ap, sym, subst, refl, ℕ, zero, suc, ◌<◌, ◌⊎◌, inl, inr, List, [], ◌∷◌, ◌++◌, map, filter, length, Option, Some, None, eq-eqb}
-use Rattle.std.specs.Prelude.{◌==◌, All, Contains, slice_get, slice_index_or, if◌then◌else◌}
+use Rattle.std.specs.Prelude.{All, slice_get, slice_index_or, if◌then◌else◌}
 use Rattle.std.specs.Int.{bit_at}
-use Rattle.std.specs.List.{flat_map}
 use Rattle.std.proofs.lemmas.Bool.{cases_eq, ne_eqb}
-use Rattle.jp_base.specs.Sets.{Has, Within}
-use Rattle.jp_base.specs.declared.values.Ty.{Ty}
-use Rattle.jp_base.specs.declared.values.Value.{Value}
-use Rattle.jp_facts.proofs.Members.{In, to_in, from_in, in_append_left, in_append_right, in_map, in_flat_map}
+use Rattle.jp_base.specs.Sets.{Within}
+use Rattle.jp_facts.proofs.Members.{In, from_in, in_append_left, in_append_right, in_map, in_flat_map}
 use Rattle.jp_query.specs.declared.JoinKind.TheVariants as join
 use Rattle.jp_query.specs.declared.Expr.{Expr}
 use Rattle.jp_query.specs.declared.Output.{Output}
-use Rattle.jp_query.specs.Fitting.{IsCellOfSome, IsCellAt, IsRowFor, IsRowOfTypes, InQuery, IsLent, own_ins, FitsLent}
+use Rattle.jp_query.specs.Fitting.{IsCellOfSome, IsCellAt, IsRowFor, IsRowOfTypes, IsLent, own_ins, FitsLent}
 use Rattle.jp_query.specs.InOrder.{direction_of}
 use Rattle.jp_query.specs.Meaning.{Row, Env, ValueIn, cell_in, no_outer_rows, value_at, holds, with_row, with_rows, without, pairs, pairs_or_alone, is_unmatched, left_join, join_tuples}
 use Rattle.jp_query.specs.Ordering.{Line, outputs_of, distinct_lines, sorted}
 use Rattle.jp_query.specs.Outermost.{Outer, outermost}
 use Rattle.jp_query.specs.Parts.{ColumnRef}
-use Rattle.jp_query.specs.Scopes.{Column, Schema, Scope, bound_of, columns_of_table, visible_columns, visible_column}
-use Rattle.jp_query.specs.Tables.{TableRows, IsCellOf, IsRowOf, Belong, rows_of_tables}
+use Rattle.jp_query.specs.Scopes.{Column, Scope, columns_of_table, visible_columns, visible_column}
+use Rattle.jp_query.specs.Tables.{TableRows, IsRowOf, Belong, rows_of_tables}
 use Rattle.jp_query.specs.Typing.{IsTypedExpr, typed_query}
 use Rattle.jp_query.specs.Conditions.{IsBoundedExpr}
 use Rattle.jp_eval.specs.Evaluation.{CanEvaluate}
@@ -34,16 +31,16 @@ use Rattle.jp_framed.proofs.MapRows.{overlaid, left_alone}
 use Rattle.jp_induction.proofs.EachPart.{Each, each_of, all_of_each, each_append, each_weaker, each_map, each_anyway}
 use Rattle.jp_laws.proofs.FitLaws.{with_lent}
 use Rattle.jp_laws.proofs.TuplesFit.{each_filter, each_flat, each_mapped_to}
-use Rattle.jp_lists.specs.Lists.{Listed, Listing, sublink_rows, block_of_sublink, only_rows, rels_of_block, listed_value, kind_source, item_source, sources_of, listed_output, listed_key, listed_line, rows_of_lines, around_block, run_of_block, tuples_of_block, listed_block, nothing_listed, listing, list_of}
+use Rattle.jp_lists.specs.Lists.{Listed, Listing, sublink_rows, block_of_sublink, only_rows, rels_of_block, listed_value, kind_source, sources_of, listed_output, listed_line, rows_of_lines, around_block, run_of_block, tuples_of_block, listed_block, listing, list_of}
 use Rattle.jp_lists.specs.Seen.{FitsOutside, IsInside, IsEvaluated}
 use Rattle.jp_lists.specs.Steps.{Run, tree_list}
-use Rattle.jp_lists.proofs.Arounds.{at_in, each_from, from_each, in_range, from_behind, own_rels, own_relation, relation_own, item_within, gone, stays}
+use Rattle.jp_lists.proofs.Arounds.{at_in, each_from, from_each, in_range, from_behind, own_rels, relation_own, item_within, gone, stays}
 use Rattle.jp_lists.proofs.CellFacts.{cell_fits, typed_row, stored_rows, lines_fit, else_fits, each_at}
 use Rattle.jp_lists.proofs.InParts.{as_in, ins_are_outermost, own_ins_have}
 use Rattle.jp_lists.proofs.SeenLaws.{lists_nothing}
 use Rattle.jp_lists.proofs.Sublinks.{sublink_place}
 use Rattle.jp_lists.proofs.Unfolds.{block_unfolds}
-use Rattle.jp_tree.specs.BlockParts.{exprs_in, output_ty, own_columns, columns_named, sublinks_of, in_sublinks_of, outermost_ins, item_blocks, blocks_of_kind, blocks_of_item, HasRelation, IsBlockAt, IsOfSublink, Uses, by_item, by_sublink, IsOuterReference, named, passed_on}
+use Rattle.jp_tree.specs.BlockParts.{exprs_in, output_ty, own_columns, columns_named, sublinks_of, in_sublinks_of, outermost_ins, item_blocks, blocks_of_kind, blocks_of_item, HasRelation, IsBlockAt, Uses, by_item, by_sublink, named, passed_on}
 use Rattle.jp_tree.specs.Prepared.{IsWhole, IsTypedBlock, KnowsScope, HasItsType, output_column}
 use Rattle.jp_tree.specs.declared.prepared.Block.{Block}
 use Rattle.jp_tree.specs.declared.prepared.Prepared.{Prepared}

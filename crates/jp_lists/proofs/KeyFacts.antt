@@ -1,9 +1,8 @@
 -- The key of a step: the sides of an equality of its list, each over its own set, and what they look at.
-use Rattle.std.proofs.Common.{◌≡◌, ◌∙◌, ap, sym, subst, refl, ℕ, ◌+◌, ◌⊎◌, inl, inr, Bool, true, false, ◌&&◌, ◌||◌, List, [], ◌∷◌, map, Option, Some, None, arith}
+use Rattle.std.proofs.Common.{◌≡◌, ◌∙◌, ap, sym, subst, refl, ℕ, ◌⊎◌, inl, inr, Bool, true, false, ◌&&◌, ◌||◌, List, [], ◌∷◌, Option, Some, None}
 use Rattle.std.specs.Prelude.{if◌then◌else◌, is_some}
 use Rattle.std.proofs.lemmas.Bool.{and_parts}
-use Rattle.jp_base.specs.Sets.{Has, Within}
-use Rattle.jp_base.specs.declared.values.Value.{Value}
+use Rattle.jp_base.specs.Sets.{Has}
 use Rattle.jp_facts.proofs.Members.{In}
 use Rattle.jp_query.specs.declared.CmpOp.TheVariants as cmp
 use Rattle.jp_query.specs.declared.Expr.{Expr}
@@ -14,20 +13,15 @@ use Rattle.jp_query.specs.Outermost.{outermost}
 use Rattle.jp_query.specs.Parts.{columns_in, node_placeholder, parts}
 use Rattle.jp_query.specs.Refs.{refs_of}
 use Rattle.jp_query.specs.Typing.{IsTypedExpr}
-use Rattle.jp_problem.specs.declared.types.Problem.{Problem}
-use Rattle.jp_problem.specs.declared.types.Step.{Step}
 use Rattle.jp_problem.specs.Blocks.{used, items_with}
 use Rattle.jp_problem.specs.Equalities.{Sides, sides_of, equals, has_sublink}
-use Rattle.jp_problem.specs.Keys.{is_over, as_key, key_of_sides, key_in, or_key, first_key, key_list, key_of}
-use Rattle.jp_problem.specs.Problems.{problem_rels}
-use Rattle.jp_problem.specs.Sets.{is_within, is_empty}
-use Rattle.jp_problem.proofs.SetTests.{is_within_says}
+use Rattle.jp_problem.specs.Keys.{is_over, key_of_sides, key_in, or_key, first_key}
 use Rattle.jp_problem.proofs.SublinkLaws.{in-Compare}
 use Rattle.jp_conditions.proofs.Equal.{equality_is}
-use Rattle.jp_frame.specs.Maps.{Map, at, both, Agree}
-use Rattle.jp_framed.specs.Environments.{Setting, Sublinks, env_from, LiesOn}
+use Rattle.jp_frame.specs.Maps.{Map, Agree}
+use Rattle.jp_framed.specs.Environments.{Setting, Sublinks, env_from}
 use Rattle.jp_framed.proofs.MapRows.{agreeing}
-use Rattle.jp_induction.proofs.EachPart.{Each, each_weaker, each_anyway, each_append, each_both, each_in_parts, each_map, parts_map}
+use Rattle.jp_induction.proofs.EachPart.{Each, each_weaker, each_anyway, each_both}
 use Rattle.jp_induction.proofs.Induction.{expr_alone}
 use Rattle.jp_joins.proofs.PlainFacts.{plain_value}
 use Rattle.jp_laws.specs.Referred.{placeholders_in, IsReferred, AreReferred}
@@ -35,9 +29,9 @@ use Rattle.jp_laws.specs.SameCells.{IsSameCell, IsSamePresence}
 use Rattle.jp_laws.proofs.GatheredLaws.{columns_referred, places_referred}
 use Rattle.jp_laws.proofs.GatheredParts.{expr_has, node_level}
 use Rattle.jp_laws.proofs.OwnColumns.{own_of_all}
-use Rattle.jp_lists.proofs.GivenCells.{Sees, places_from, value_by_sight}
+use Rattle.jp_lists.proofs.GivenCells.{places_from, value_by_sight}
 use Rattle.jp_lists.specs.Seen.{HasSameRows}
-use Rattle.jp_tree.specs.BlockParts.{own_columns, own_placeholders}
+use Rattle.jp_tree.specs.BlockParts.{own_placeholders}
 
 -- ---- where the key comes from
 

@@ -1,12 +1,12 @@
 -- A special join of a made problem is no Inner join.
-use Rattle.std.proofs.Common.{◌≡◌, ap, sym, subst, refl, inl, inr, ℕ, List, [], ◌∷◌, ◌++◌, map, fold}
+use Rattle.std.proofs.Common.{◌≡◌, sym, subst, refl, inl, inr, ℕ, List, [], ◌∷◌, ◌++◌, map, fold}
 use Rattle.jp_facts.proofs.Members.{In, from_append}
 use Rattle.jp_query.specs.declared.Expr.{Expr}
 use Rattle.jp_query.specs.declared.JoinKind.{JoinKind}
 use Rattle.jp_query.specs.declared.JoinKind.TheVariants as join
 use Rattle.jp_query.specs.declared.JoinTree.{JoinTree}
 use Rattle.jp_query.specs.declared.JoinTree.TheVariants as tree
-use Rattle.jp_query.specs.declared.Query.{Query, out-Query}
+use Rattle.jp_query.specs.declared.Query.{out-Query}
 use Rattle.jp_problem.specs.declared.types.Outline.{Outline}
 use Rattle.jp_problem.specs.declared.types.Place.{Place}
 use Rattle.jp_problem.specs.declared.types.Problem.{Problem}
@@ -14,7 +14,7 @@ use Rattle.jp_problem.specs.declared.types.Special.{Special}
 use Rattle.jp_problem.specs.declared.types.Written.{Written}
 use Rattle.jp_problem.specs.Blocks.{top, behind, in_right_side, item_rels, joins_at, written, outline_of}
 use Rattle.jp_problem.specs.Made.{IsMade}
-use Rattle.jp_problem.specs.MinimumSets.{with_sets, one_more, specials_in}
+use Rattle.jp_problem.specs.MinimumSets.{with_sets, one_more}
 use Rattle.jp_problem.specs.Shapes.{Shape, nothing, item, beside, filtered, special, joined, shape_of, block_shape}
 use Rattle.jp_problem.proofs.ShapeLaws.{at_base, at_sub, at_join, at_from}
 use Rattle.jp_conditions.proofs.Forms.{by_form}

@@ -1,11 +1,9 @@
 -- What holds of the expressions of a problem holds of the clauses of its stages and of the keys of its steps.
-use Rattle.std.proofs.Common.{◌≡◌, ℕ, suc, Bool, true, false, ◌&&◌, List, [], ◌∷◌, ◌++◌, map, filter, Option, Some, None}
+use Rattle.std.proofs.Common.{ℕ, suc, Bool, true, false, ◌&&◌, List, [], ◌∷◌, ◌++◌, map, filter, Option, Some, None}
 use Rattle.std.specs.Prelude.{◌==◌, if◌then◌else◌, nat_lt}
 use Rattle.std.specs.List.{flat_map}
 use Rattle.jp_query.specs.declared.Expr.{Expr}
 use Rattle.jp_problem.specs.declared.types.Class.{Class}
-use Rattle.jp_problem.specs.declared.types.Clause.{Clause}
-use Rattle.jp_problem.specs.declared.types.Item.{Item}
 use Rattle.jp_problem.specs.declared.types.Problem.{Problem}
 use Rattle.jp_problem.specs.declared.types.Special.{Special}
 use Rattle.jp_problem.specs.declared.types.Stage.{Stage}

@@ -1,11 +1,11 @@
 -- What a plan's scans and steps test can be evaluated, and its steps can be run.
-use Rattle.std.proofs.Common.{◌≡◌, ◌∙◌, ap, sym, subst, refl, ℕ, ◌+◌, ◌<◌, ◌↔◌, ◌⊎◌, inl, inr, true, not, List, [], ◌∷◌, ◌++◌, map, length, Option, Some, None, IsSome, eq-eqb}
-use Rattle.std.specs.Prelude.{◌==◌, All, Contains, is_some, slice_get, bit_or, if◌then◌else◌}
+use Rattle.std.proofs.Common.{◌≡◌, ◌∙◌, ap, sym, subst, refl, ℕ, ◌↔◌, inl, inr, true, not, List, [], ◌∷◌, ◌++◌, map, length, Option, Some, None, IsSome, eq-eqb}
+use Rattle.std.specs.Prelude.{All, is_some, if◌then◌else◌}
 use Rattle.std.specs.Int.{bit_at}
 use Rattle.std.specs.List.{flat_map}
 use Rattle.std.specs.Option.{option_map}
 use Rattle.std.proofs.lemmas.Bool.{and_parts, cases_eq, ne_eqb}
-use Rattle.jp_base.specs.Sets.{Has, Within}
+use Rattle.jp_base.specs.Sets.{Within}
 use Rattle.jp_base.specs.declared.values.Ty.TheVariants as ty
 use Rattle.jp_facts.proofs.Members.{In, from_in, in_append_left}
 use Rattle.jp_query.specs.declared.Expr.{Expr}
@@ -26,7 +26,7 @@ use Rattle.jp_problem.specs.declared.types.Step.{Step}
 use Rattle.jp_problem.specs.declared.types.Step.TheVariants as step
 use Rattle.jp_problem.specs.Blocks.{output_expr, order_expr, used}
 use Rattle.jp_problem.specs.Equalities.{Sides, sides_of, equals}
-use Rattle.jp_problem.specs.Keys.{is_over, first_key, key_list, key_of}
+use Rattle.jp_problem.specs.Keys.{is_over, key_list, key_of}
 use Rattle.jp_problem.specs.Legal.{Apart, IsLegalStep}
 use Rattle.jp_problem.specs.Made.{IsMade, exprs_of, item_exprs, join_exprs, class_exprs}
 use Rattle.jp_problem.specs.Problems.{problem_rels, join_of}
@@ -37,7 +37,6 @@ use Rattle.jp_problem.proofs.SetTests.{is_within_says}
 use Rattle.jp_conditions.proofs.Equal.{compared, comparable}
 use Rattle.jp_frame.specs.Maps.{Map, at, both, Agree}
 use Rattle.jp_frame.proofs.MapLaws.{both_left, both_right}
-use Rattle.jp_framed.specs.Environments.{LiesOn}
 use Rattle.jp_induction.proofs.EachPart.{Each, each_of, all_of_each, each_left, each_right, each_weaker, each_both}
 use Rattle.jp_joins.specs.Conditions.{CanEvaluateAt, sides, CanTest, AreApart, CanJoin, CanLookUpBy, CanLookUp}
 use Rattle.jp_joins.specs.Meant.{Meant, value_at}
@@ -49,10 +48,10 @@ use Rattle.jp_lists.proofs.Arounds.{at_in, each_from, from_each}
 use Rattle.jp_lists.proofs.CellFacts.{each_at}
 use Rattle.jp_lists.proofs.ClassTypes.{IsOneType, made_types}
 use Rattle.jp_lists.proofs.EqualityFacts.{IsHalf, half_up, half_down}
-use Rattle.jp_lists.proofs.FitLaws.{expr_fits, of_block, behind_fits, map_is_inside}
+use Rattle.jp_lists.proofs.FitLaws.{expr_fits, behind_fits, map_is_inside}
 use Rattle.jp_lists.proofs.KeyFacts.{IsKeyOf, found_key, side_value}
 use Rattle.jp_lists.proofs.MapFacts.{IsOver, tree_over}
-use Rattle.jp_lists.proofs.SpecialKinds.{IsOuter, made_outer}
+use Rattle.jp_lists.proofs.SpecialKinds.{made_outer}
 use Rattle.jp_lists.proofs.StageLaws.{IsPair, OfParts, class_made, flat_parts, parts_of, stage_made, list_made, filters_made, key_ok}
 use Rattle.jp_tree.specs.BlockParts.{exprs_in, conditions_in, IsBlockAt}
 use Rattle.jp_tree.specs.Prepared.{IsWhole, IsPlannable, IsTypedBlock, KnowsScope}

@@ -1,6 +1,6 @@
 -- Two runs of a block whose items have the same rows, and in which its expressions have the same values at each map, list the
 -- same maps.
-use Rattle.std.proofs.Common.{◌≡◌, ◌∙◌, sym, refl, ℕ, List, map, filter, length, Option, Some, None}
+use Rattle.std.proofs.Common.{◌≡◌, ◌∙◌, sym, refl, ℕ, List, filter, length, Option, Some, None}
 use Rattle.std.specs.List.{flat_map}
 use Rattle.std.specs.Option.{option_map}
 use mathlib.Core.Path.{fun_ext}
