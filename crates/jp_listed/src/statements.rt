@@ -18,9 +18,10 @@ use jp_folded::folding_keeps_typed_queries;
 use jp_lists::a_block_gives_what_its_plan_lists;
 use jp_prepared::a_prepared_statement_is_whole;
 
-/// What the plans list is what the statement means: over tables that belong to the catalogue's schema, the rows that block 0
-/// of the prepared statement of a typed, bounded and fresh query lists are, as a bag, those of the query, and stand in the
-/// order of its ORDER BY. The methods of the plans are any that their steps allow.
+/// A law: what the plans list is what the statement means. Over tables that belong to the catalogue's schema, the rows that
+/// block 0 of the prepared statement of a typed, bounded and fresh query lists are, as a bag, those of the query, and stand
+/// in the order of its ORDER BY. The methods of the plans are any that their steps allow; their nodes stand in a pool, the
+/// children of each before it.
 pub fn plans_list_what_the_statement_means()
     ensures rows { (catalog : Catalog) (query : Query) (prepared : Prepared) (tables : TableRows) →
         IsSound catalog → IsTyped (schema_of catalog) [] query → IsBounded (schema_of catalog) [] query → IsFresh query → IsPool prepared.pool.nodes → IsPrepared catalog query prepared → Belong (schema_of catalog) tables →

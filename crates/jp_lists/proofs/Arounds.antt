@@ -1,13 +1,13 @@
 -- Around a block its own relations have no rows; in the environments of its maps they have those of its items.
-use Rattle.std.proofs.Common.{◌≡◌, ◌∙◌, ap, sym, subst, refl, ℕ, zero, suc, ◌+◌, ◌<◌, ◌≤◌, inl, inr, ◌⊎◌, List, [], ◌∷◌, map, length, Option, Some, None, is_some, eq-eqb, arith}
-use Rattle.std.specs.Prelude.{Contains, slice_get, if◌then◌else◌}
+use Rattle.std.proofs.Common.{◌≡◌, ◌∙◌, ap, sym, subst, refl, ℕ, zero, suc, ◌+◌, ◌<◌, ◌≤◌, inl, inr, List, [], ◌∷◌, length, Some, None, is_some, eq-eqb, arith}
+use Rattle.std.specs.Prelude.{slice_get, if◌then◌else◌}
 use Rattle.std.specs.Int.{bit_at}
 use Rattle.std.specs.List.{flat_map}
 use Rattle.std.proofs.lemmas.Bool.{cases_eq, ne_eqb}
 use mathlib.Core.Path.{fun_ext}
 use Rattle.jp_base.specs.Sets.{Has, Within}
 use Rattle.jp_facts.proofs.Members.{In, to_in, from_in, in_map, from_map}
-use Rattle.jp_query.specs.Meaning.{Env, cell_in, no_outer_rows, with_rows, without}
+use Rattle.jp_query.specs.Meaning.{Env, cell_in, no_outer_rows, without}
 use Rattle.jp_query.specs.Parts.{ColumnRef}
 use Rattle.jp_query.specs.Refs.{union}
 use Rattle.jp_problem.specs.declared.types.Item.{Item}

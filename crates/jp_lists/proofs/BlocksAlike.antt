@@ -3,9 +3,7 @@
 use Rattle.std.proofs.Common.{◌≡◌, ap, sym, subst, refl, inl, inr, ℕ, List, [], ◌∷◌, ◌++◌, map}
 use Rattle.std.specs.List.{flat_map}
 use Rattle.std.specs.Prelude.{bit_or}
-use mathlib.Core.Path.{fun_ext}
-use Rattle.jp_base.specs.Sets.{Has, Within}
-use Rattle.jp_base.specs.declared.values.Value.{Value}
+use Rattle.jp_base.specs.Sets.{Within}
 use Rattle.jp_facts.proofs.Members.{In, in_append_left, in_append_right, in_map, in_flat_map}
 use Rattle.jp_query.specs.declared.CmpOp.TheVariants as cmp
 use Rattle.jp_query.specs.declared.JoinKind.TheVariants as join
@@ -17,33 +15,32 @@ use Rattle.jp_query.specs.declared.Expr.TheViews.{roll-Expr, roll-out-Expr}
 use Rattle.jp_query.specs.declared.Expr.TheFolds.{fold-roll-Expr, para-roll-Expr}
 use Rattle.jp_query.specs.declared.Order.{Order}
 use Rattle.jp_query.specs.declared.Output.{Output}
-use Rattle.jp_query.specs.InOrder.{direction_of}
 use Rattle.jp_query.specs.Layers.{ExprLayer}
-use Rattle.jp_query.specs.Meaning.{Row, Env, ValueIn, no_outer_rows, with_row, with_rows, without, holds, value_at, key_at, line_at, join_tuples}
-use Rattle.jp_query.specs.Ordering.{Line, outputs_of, distinct_lines, sorted}
-use Rattle.jp_query.specs.Outermost.{Outer, Outers, expr_outers, outermost}
+use Rattle.jp_query.specs.Meaning.{Row, Env, no_outer_rows, with_row, holds, value_at, key_at}
+use Rattle.jp_query.specs.Outermost.{Outers, expr_outers, outermost}
 use Rattle.jp_query.specs.Refs.{union}
 use Rattle.jp_problem.specs.declared.types.Item.{Item}
 use Rattle.jp_problem.specs.declared.types.ItemKind.{ItemKind}
 use Rattle.jp_problem.specs.declared.types.ItemKind.TheVariants as kind
 use Rattle.jp_problem.specs.Blocks.{output_expr, order_expr}
-use Rattle.jp_problem.specs.Equalities.{Sides, sides_at, sides_of, equals}
+use Rattle.jp_problem.specs.Equalities.{sides_at, sides_of, equals}
 use Rattle.jp_problem.specs.Made.{exprs_of, on_of_item, item_exprs, join_exprs, class_exprs}
 use Rattle.jp_problem.specs.Problems.{rels_of_item, problem_rels}
 use Rattle.jp_problem.specs.StepClauses.{expr_of}
-use Rattle.jp_problem.proofs.UnionLaws.{InSome, has_union}
+use Rattle.jp_problem.proofs.UnionLaws.{has_union}
 use Rattle.jp_frame.specs.Maps.{Map}
 use Rattle.jp_framed.specs.Environments.{env_from}
 use Rattle.jp_induction.specs.Alike.{Alike, none, more}
 use Rattle.jp_induction.proofs.Alike.{alike_same}
 use Rattle.jp_induction.proofs.Between.{Kept, holds_same, join_alike}
-use Rattle.jp_induction.proofs.EachPart.{Each, each_left, each_right, each_append, each_weaker, each_mapped}
+use Rattle.jp_induction.proofs.EachPart.{Each, each_append, each_weaker}
 use Rattle.jp_laws.specs.SameCells.{IsSameCell, IsSamePresence}
-use Rattle.jp_lists.specs.Lists.{Listed, Listing, sublink_rows, listed_value, only_rows, rels_of_block, kind_source, item_source, sources_of, listed_output, listed_key, listed_line, rows_of_lines, around_block, run_of_block, tuples_of_block, listed_block}
+use Rattle.jp_lists.specs.Lists.{Listing, sublink_rows, listed_value, only_rows, rels_of_block, kind_source, item_source, sources_of, listed_output, listed_key, listed_line, rows_of_lines, around_block, run_of_block, tuples_of_block, listed_block}
 use Rattle.jp_lists.specs.Seen.{HasSameRows}
 use Rattle.jp_lists.specs.Steps.{Run, tree_list}
 use Rattle.jp_lists.proofs.GivenCells.{Sees, parts_see, value_by_sight}
-use Rattle.jp_lists.proofs.TreesAlike.{IsOkPair, IsKept, IsSameAt, flat_parts, trees_same}
+use Rattle.jp_lists.proofs.StageLaws.{IsPair}
+use Rattle.jp_lists.proofs.TreesAlike.{IsSameAt, trees_same}
 use Rattle.jp_tree.specs.BlockParts.{exprs_in, own_columns, column_level, own_placeholders, placeholder_level, blocks_of_kind, blocks_of_item, item_blocks}
 use Rattle.jp_tree.specs.declared.pool.PlanNode.{PlanNode}
 use Rattle.jp_tree.specs.declared.prepared.Block.{Block}
@@ -87,18 +84,18 @@ module _ (blocks : List Block) (tables : ℕ → List Row) (inner inner' : Listi
     abbrev Ok : Expr → Type 0
     Ok e = (n : ℕ) (x y : Env) → N n x y → Sees (sublink_rows blocks inner x) (sublink_rows blocks inner' y) x y e
 
-    sides_ok : (x : ExprLayer) → Ok (roll-Expr x) → IsOkPair Ok (sides_at x)
+    sides_ok : (x : ExprLayer) → Ok (roll-Expr x) → IsPair Ok (sides_at x)
     sides_ok (Expr-F.Compare cmp.Eq a b) h = (
       λ n x y t. (parts_see (sublink_rows blocks inner x) (sublink_rows blocks inner' y) x y (Expr-F.Compare cmp.Eq a b) (h n x y t)).0,
       λ n x y t. (parts_see (sublink_rows blocks inner x) (sublink_rows blocks inner' y) x y (Expr-F.Compare cmp.Eq a b) (h n x y t)).1.0,
     )
     sides_ok x h = tt
 
-    is_kept : IsKept Ok
-    is_kept = record {
-      up = λ a b p q n x y t. equality_sees (sublink_rows blocks inner x) (sublink_rows blocks inner' y) x y a b (p n x y t) (q n x y t);
-      down = λ e h. sides_ok (out-Expr e) (subst Ok (sym (roll-out-Expr e)) h);
-    }
+    up : (a b : Expr) → Ok a → Ok b → Ok (equals a b)
+    up a b p q n x y t = equality_sees (sublink_rows blocks inner x) (sublink_rows blocks inner' y) x y a b (p n x y t) (q n x y t)
+
+    down : (e : Expr) → Ok e → IsPair Ok (sides_of e)
+    down e h = sides_ok (out-Expr e) (subst Ok (sym (roll-out-Expr e)) h)
 
     each_ok : (es : List Expr) → ((e : Expr) → In e es → In e (exprs_in block)) → Each Ok es
     each_ok [] w = tt
@@ -176,7 +173,7 @@ module _ (blocks : List Block) (tables : ℕ → List Row) (inner inner' : Listi
     module _ (nodes : List PlanNode) where
       pub tuples_alike : Alike (N own) (tuples_of_block blocks nodes tables inner outer block) (tuples_of_block blocks nodes tables inner' outer' block)
       tuples_alike = subst (λ ms. Alike (N own) (map run.environment (tree_list run block.problem (tree_at nodes block.plan))) (map run'.environment ms))
-          (trees_same run run' block.problem Ok is_kept same_in_runs problem_ok sources (tree_at nodes block.plan)) (alike_maps (tree_list run block.problem (tree_at nodes block.plan)))
+          (trees_same run run' block.problem Ok up down same_in_runs problem_ok sources (tree_at nodes block.plan)) (alike_maps (tree_list run block.problem (tree_at nodes block.plan)))
 
       outputs_same : (columns : List Output) → Each Ok (map output_expr columns) → (x y : Env) → N own x y → map (value_at x) (map (listed_output blocks inner) columns) ≡ map (value_at y) (map (listed_output blocks inner') columns)
       outputs_same [] ok x y t = refl

@@ -1,9 +1,7 @@
 -- Cells, rows and lines that fit.
-use Rattle.std.proofs.Common.{◌≡◌, ap, sym, subst, refl, ℕ, zero, suc, Bool, true, false, List, [], ◌∷◌, ◌++◌, map, Option, Some, None}
+use Rattle.std.proofs.Common.{◌≡◌, subst, ℕ, zero, suc, Bool, true, false, List, [], ◌∷◌, map, Option, Some, None}
 use Rattle.std.specs.Prelude.{slice_get, slice_index_or}
-use Rattle.std.specs.List.{flat_map}
 use Rattle.std.proofs.lemmas.List.Sorted.{All-permutation}
-use Rattle.jp_base.specs.declared.values.Ty.{Ty}
 use Rattle.jp_base.specs.declared.values.Value.TheVariants as value
 use Rattle.jp_query.specs.Fitting.{IsCellOfSome, IsCellAt, IsRowFor, IsRowOfTypes}
 use Rattle.jp_query.specs.Meaning.{Row, Env, cell_in, or_else}

@@ -1,24 +1,21 @@
 -- Rows, tuples and environments of a block fit where its outer references do.
 use Rattle.std.proofs.Common.{◌≡◌, ◌∙◌, ap, sym, subst, refl, ℕ, zero, suc, ◌<◌, ◌⊎◌, inl, inr, List, [], ◌∷◌, ◌++◌, map, filter, length, Option, Some, None, eq-eqb}
-use Rattle.std.specs.Prelude.{◌==◌, All, Contains, slice_get, slice_index_or, if◌then◌else◌}
+use Rattle.std.specs.Prelude.{All, slice_get, slice_index_or, if◌then◌else◌}
 use Rattle.std.specs.Int.{bit_at}
-use Rattle.std.specs.List.{flat_map}
 use Rattle.std.proofs.lemmas.Bool.{cases_eq, ne_eqb}
-use Rattle.jp_base.specs.Sets.{Has, Within}
-use Rattle.jp_base.specs.declared.values.Ty.{Ty}
-use Rattle.jp_base.specs.declared.values.Value.{Value}
-use Rattle.jp_facts.proofs.Members.{In, to_in, from_in, in_append_left, in_append_right, in_map, in_flat_map}
+use Rattle.jp_base.specs.Sets.{Within}
+use Rattle.jp_facts.proofs.Members.{In, from_in, in_append_left, in_append_right, in_map, in_flat_map}
 use Rattle.jp_query.specs.declared.JoinKind.TheVariants as join
 use Rattle.jp_query.specs.declared.Expr.{Expr}
 use Rattle.jp_query.specs.declared.Output.{Output}
-use Rattle.jp_query.specs.Fitting.{IsCellOfSome, IsCellAt, IsRowFor, IsRowOfTypes, InQuery, IsLent, own_ins, FitsLent}
+use Rattle.jp_query.specs.Fitting.{IsCellOfSome, IsCellAt, IsRowFor, IsRowOfTypes, IsLent, own_ins, FitsLent}
 use Rattle.jp_query.specs.InOrder.{direction_of}
 use Rattle.jp_query.specs.Meaning.{Row, Env, ValueIn, cell_in, no_outer_rows, value_at, holds, with_row, with_rows, without, pairs, pairs_or_alone, is_unmatched, left_join, join_tuples}
 use Rattle.jp_query.specs.Ordering.{Line, outputs_of, distinct_lines, sorted}
 use Rattle.jp_query.specs.Outermost.{Outer, outermost}
 use Rattle.jp_query.specs.Parts.{ColumnRef}
-use Rattle.jp_query.specs.Scopes.{Column, Schema, Scope, bound_of, columns_of_table, visible_columns, visible_column}
-use Rattle.jp_query.specs.Tables.{TableRows, IsCellOf, IsRowOf, Belong, rows_of_tables}
+use Rattle.jp_query.specs.Scopes.{Column, Scope, columns_of_table, visible_columns, visible_column}
+use Rattle.jp_query.specs.Tables.{TableRows, IsRowOf, Belong, rows_of_tables}
 use Rattle.jp_query.specs.Typing.{IsTypedExpr, typed_query}
 use Rattle.jp_query.specs.Conditions.{IsBoundedExpr}
 use Rattle.jp_eval.specs.Evaluation.{CanEvaluate}
@@ -34,16 +31,16 @@ use Rattle.jp_framed.proofs.MapRows.{overlaid, left_alone}
 use Rattle.jp_induction.proofs.EachPart.{Each, each_of, all_of_each, each_append, each_weaker, each_map, each_anyway}
 use Rattle.jp_laws.proofs.FitLaws.{with_lent}
 use Rattle.jp_laws.proofs.TuplesFit.{each_filter, each_flat, each_mapped_to}
-use Rattle.jp_lists.specs.Lists.{Listed, Listing, sublink_rows, block_of_sublink, only_rows, rels_of_block, listed_value, kind_source, item_source, sources_of, listed_output, listed_key, listed_line, rows_of_lines, around_block, run_of_block, tuples_of_block, listed_block, nothing_listed, listing, list_of}
+use Rattle.jp_lists.specs.Lists.{Listed, Listing, sublink_rows, block_of_sublink, only_rows, rels_of_block, listed_value, kind_source, sources_of, listed_output, listed_line, rows_of_lines, around_block, run_of_block, tuples_of_block, listed_block, listing, list_of}
 use Rattle.jp_lists.specs.Seen.{FitsOutside, IsInside, IsEvaluated}
 use Rattle.jp_lists.specs.Steps.{Run, tree_list}
-use Rattle.jp_lists.proofs.Arounds.{at_in, each_from, from_each, in_range, from_behind, own_rels, own_relation, relation_own, item_within, gone, stays}
+use Rattle.jp_lists.proofs.Arounds.{at_in, each_from, from_each, in_range, from_behind, own_rels, relation_own, item_within, gone, stays}
 use Rattle.jp_lists.proofs.CellFacts.{cell_fits, typed_row, stored_rows, lines_fit, else_fits, each_at}
 use Rattle.jp_lists.proofs.InParts.{as_in, ins_are_outermost, own_ins_have}
 use Rattle.jp_lists.proofs.SeenLaws.{lists_nothing}
 use Rattle.jp_lists.proofs.Sublinks.{sublink_place}
 use Rattle.jp_lists.proofs.Unfolds.{block_unfolds}
-use Rattle.jp_tree.specs.BlockParts.{exprs_in, output_ty, own_columns, columns_named, sublinks_of, in_sublinks_of, outermost_ins, item_blocks, blocks_of_kind, blocks_of_item, HasRelation, IsBlockAt, IsOfSublink, Uses, by_item, by_sublink, IsOuterReference, named, passed_on}
+use Rattle.jp_tree.specs.BlockParts.{exprs_in, output_ty, own_columns, columns_named, sublinks_of, in_sublinks_of, outermost_ins, item_blocks, blocks_of_kind, blocks_of_item, HasRelation, IsBlockAt, Uses, by_item, by_sublink, named, passed_on}
 use Rattle.jp_tree.specs.Prepared.{IsWhole, IsTypedBlock, KnowsScope, HasItsType, output_column}
 use Rattle.jp_tree.specs.declared.prepared.Block.{Block}
 use Rattle.jp_tree.specs.declared.prepared.Prepared.{Prepared}
@@ -161,7 +158,7 @@ module _ (prepared : Prepared) (whole : IsWhole prepared) where
             (subst (λ n. Each (IsRowOfTypes (typed_query o.query).outputs) (lists n x).rows) (sym (sublink_place prepared number o.number one))
             (subst (λ ts. Each (IsRowOfTypes ts) (lists one.place x).rows) same rows))
 
-        expr_fits : (x : Env) → IsInside scope around x → (e : Expr) → In e (exprs_in block) → FitsLent scope (sublink_rows prepared.blocks lists x) e x
+        pub expr_fits : (x : Env) → IsInside scope around x → (e : Expr) → In e (exprs_in block) → FitsLent scope (sublink_rows prepared.blocks lists x) e x
         expr_fits x f e h = record {
           cells = all_of_each (IsCellAt scope x) (own_columns e) (each_from (IsCellAt scope x) (own_columns e) (λ c r. inside_fits x f c (λ out. fits c (named block there (from_in c (columns_named block) (in_flat_map own_columns e c (exprs_in block) h r)) out))));
           lent = all_of_each (IsLent (sublink_rows prepared.blocks lists x)) (own_ins e) (own_ins_have (IsLent (sublink_rows prepared.blocks lists x)) e
@@ -169,7 +166,7 @@ module _ (prepared : Prepared) (whole : IsWhole prepared) where
               (in_flat_map outermost e o (exprs_in block) h (from_each (λ o. In o (outermost e)) o (outermost_ins e) (ins_are_outermost e) r)))));
         }
 
-        of_block : IsTypedBlock whole.schema scope block
+        pub of_block : IsTypedBlock whole.schema scope block
         of_block = each_at (IsTypedBlock whole.schema scope) prepared.blocks number block there (each_of (IsTypedBlock whole.schema scope) prepared.blocks whole.typed)
 
         module _ {X : Type 0} where
@@ -320,7 +317,7 @@ pub tuples_inside : (prepared : Prepared) (whole : IsWhole prepared) (tables : T
 tuples_inside prepared whole tables number block env belong there fits = all_of_each (IsInside whole.scope env) (listing prepared (rows_of_tables tables) number env).tuples (fitting prepared whole tables belong number env fits block there).tuples
 
 module _ (prepared : Prepared) (whole : IsWhole prepared) (tables : TableRows) (number : ℕ) (block : Block) (env : Env) (belong : Belong whole.schema tables) (there : IsBlockAt prepared number block) (fits : FitsOutside prepared whole.scope number env) where
-  behind_fits : (n : ℕ) → number < n → n < length prepared.blocks → (x : Env) → FitsOutside prepared whole.scope n x → (at : Block) → IsBlockAt prepared n at → Fitting prepared whole tables n at x
+  pub behind_fits : (n : ℕ) → number < n → n < length prepared.blocks → (x : Env) → FitsOutside prepared whole.scope n x → (at : Block) → IsBlockAt prepared n at → Fitting prepared whole tables n at x
   behind_fits n low less x f at is = fitting prepared whole tables belong n x f at is
 
   pub map_is_inside : (m : Map) → IsInside whole.scope (around_block block env) ((run_of_block prepared.blocks (rows_of_tables tables) (listing prepared (rows_of_tables tables)) env block).environment m)

@@ -16,7 +16,7 @@ use Rattle.jp_query.specs.Operators.{among}
 use Rattle.jp_query.specs.Outermost.{Outer, Outers, outers_in, Level, outer_here, expr_outers, outermost}
 use Rattle.jp_query.specs.Parts.{all_in, parts, node_column, node_placeholder}
 use Rattle.jp_induction.proofs.Between.{SameValue, OwnSame, value_same}
-use Rattle.jp_induction.proofs.EachPart.{Each, each_left, each_right, each_both, each_in_all, each_mapped, each_of, parts_map}
+use Rattle.jp_induction.proofs.EachPart.{Each, each_left, each_right, each_both, each_in_all, each_mapped, each_of, each_append, each_in_parts, each_map, parts_map}
 use Rattle.jp_induction.proofs.Induction.{expr_alone}
 use Rattle.jp_laws.specs.SameCells.{IsSameCell, IsSamePresence}
 use Rattle.jp_laws.proofs.OwnColumns.{own_has}
@@ -39,6 +39,11 @@ places_have P x h =
       subst (Each P) (places_mapped x) (each_left P (node_placeholder (place_level x)) (all_in (parts (place_level x))) all),
       each_mapped (Each P) own_placeholders (parts x) (subst (Each (Each P)) (parts_map own_placeholders (λ t. tt) (λ o. tt) (λ u. tt) (λ q. tt) x) (each_in_all P (parts (place_level x)) (each_right P (node_placeholder (place_level x)) (all_in (parts (place_level x))) all))),
     )
+
+pub places_from : (P : ℕ → Type 0) (x : ExprLayer) → Each P (node_placeholder x) → Each (λ e. Each P (own_placeholders e)) (parts x) → Each P (own_placeholders (roll-Expr x))
+places_from P x here inner = subst (Each P) (sym (fold-roll-Expr (List ℕ) (Unit {0}) (Unit {0}) (Unit {0}) (Unit {0}) placeholder_level (λ t. tt) (λ o. tt) (λ u. tt) (λ q. tt) x))
+    (each_append P (node_placeholder (place_level x)) (all_in (parts (place_level x))) (subst (Each P) (sym (places_mapped x)) here)
+    (each_in_parts P (parts (place_level x)) (subst (Each (Each P)) (sym (parts_map own_placeholders (λ t. tt) (λ o. tt) (λ u. tt) (λ q. tt) x)) (each_map (Each P) own_placeholders (parts x) inner))))
 
 abbrev beside : Expr → Expr × Outers
 beside x = (x, outermost x)

@@ -126,3 +126,14 @@ module _ (P : InQuery → Type 0) where
 
   pub own_ins_have : (x : Expr) → Own x
   own_ins_have = expr_alone Own own_step
+
+module _ (P : InQuery → Type 0) where
+  at_ins : (x : ExprLayer) → own_ins (roll-Expr x) ≡ node_in (ins_level x) ++ all_in (map own_ins (parts x))
+  at_ins x = fold-roll-Expr (List InQuery) (Unit {0}) (Unit {0}) Ty (List Ty) expr_own_ins (λ t. tt) (λ o. tt) (λ u. u.ty) (λ q. q.columns) x
+      ∙ ap (λ ns. node_in (ins_level x) ++ all_in ns) (parts_map own_ins types_of_tree types_of_order types_of_output types_of x)
+
+  pub parts_have_ins : (x : ExprLayer) → Each P (own_ins (roll-Expr x)) → Each (λ e. Each P (own_ins e)) (parts x)
+  parts_have_ins x h = each_mapped (Each P) own_ins (parts x) (each_in_all P (map own_ins (parts x)) (each_right P (node_in (ins_level x)) (all_in (map own_ins (parts x))) (subst (Each P) (at_ins x) h)))
+
+  pub ins_from_parts : (x : ExprLayer) → Each P (node_in (ins_level x)) → Each (λ e. Each P (own_ins e)) (parts x) → Each P (own_ins (roll-Expr x))
+  ins_from_parts x here inner = subst (Each P) (sym (at_ins x)) (each_append P (node_in (ins_level x)) (all_in (map own_ins (parts x))) here (each_in_parts P (map own_ins (parts x)) (each_map (Each P) own_ins (parts x) inner)))

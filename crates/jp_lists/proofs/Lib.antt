@@ -1,11 +1,17 @@
 pub mod Arounds
 pub mod BlocksAlike
 pub mod CellFacts
+pub mod ClassTypes
+pub mod EqualityFacts
 pub mod FitLaws
 pub mod GivenCells
 pub mod InParts
+pub mod KeyFacts
 pub mod MapFacts
 pub mod SeenLaws
+pub mod SpecialKinds
+pub mod StageLaws
+pub mod StepLaws
 pub mod Sublinks
 pub mod TreesAlike
 pub mod Unfolds

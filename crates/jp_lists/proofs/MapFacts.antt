@@ -1,10 +1,9 @@
 -- The maps that a tree lists have one place for each item, and rows of the tree's items alone.
-use Rattle.std.proofs.Common.{◌≡◌, ◌∙◌, ap, sym, subst, refl, ℕ, zero, suc, inl, inr, Bool, true, false, not, List, [], ◌∷◌, ◌++◌, map, filter, length, Option, Some, None}
+use Rattle.std.proofs.Common.{◌≡◌, ◌∙◌, ap, sym, refl, ℕ, zero, suc, inl, inr, Bool, true, false, not, List, [], ◌∷◌, map, filter, length, Option, Some, None}
 use Rattle.std.specs.Prelude.{bit_or, if◌then◌else◌}
 use Rattle.std.specs.Int.{bit_at}
 use Rattle.std.specs.List.{flat_map}
 use Rattle.std.proofs.lemmas.Nat.Bits.{bit_at-pow_same}
-use Rattle.jp_base.specs.Sets.{Has}
 use Rattle.jp_base.proofs.SetLemmas.{has_or}
 use Rattle.jp_query.specs.declared.Expr.{Expr}
 use Rattle.jp_query.specs.declared.JoinKind.{JoinKind}
@@ -15,16 +14,15 @@ use Rattle.jp_problem.specs.declared.types.Method.TheVariants as method
 use Rattle.jp_problem.specs.declared.types.Problem.{Problem}
 use Rattle.jp_problem.specs.StepClauses.{scan_clauses}
 use Rattle.jp_problem.specs.Trees.{Tree, set_of}
-use Rattle.jp_frame.specs.Frames.{Left, Semi, Anti}
 use Rattle.jp_frame.specs.Maps.{Map, at, both, either_row}
-use Rattle.jp_frame.specs.Methods.{none_row, one_row, rows_of_item, matches, is_matched, left_rows, once_where, joined_rows, both_with, matches_to, is_unmatched, right_first, inserted, sorted_by}
+use Rattle.jp_frame.specs.Methods.{none_row, one_row, rows_of_item, matches, is_matched, left_rows, once_where, both_with, matches_to, is_unmatched, right_first, inserted, sorted_by}
 use Rattle.jp_frame.proofs.MapLaws.{at_both, length_both}
 use Rattle.jp_framed.specs.Environments.{source_at, LiesOn}
 use Rattle.jp_induction.proofs.EachPart.{Each, each_append, each_weaker}
 use Rattle.jp_joins.specs.Meant.{Meant, list_holds, is_match, kept, left_gives, plain_list, right_list}
-use Rattle.jp_joins.specs.Sorting.{stands_before, merged_by, merged_list}
+use Rattle.jp_joins.specs.Sorting.{stands_before, merged_by}
 use Rattle.jp_laws.proofs.TuplesFit.{each_filter, each_mapped_to}
-use Rattle.jp_lists.specs.Steps.{Run, run_holds, scan_list, meant_of, method_list, tree_list}
+use Rattle.jp_lists.specs.Steps.{Run, run_holds, meant_of, method_list, tree_list}
 use Rattle.jp_lists.proofs.Arounds.{each_flat_map}
 
 -- ---- the rows of an item

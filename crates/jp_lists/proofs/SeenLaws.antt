@@ -1,17 +1,16 @@
 -- What a block lists depends on what it sees of the environment around it alone.
 use Rattle.std.proofs.Common.{◌≡◌, ◌∙◌, ap, sym, subst, refl, ℕ, zero, suc, ◌-◌, ◌<◌, List, [], ◌∷◌, length, Option, Some, None, arith}
-use Rattle.std.specs.Prelude.{Contains, slice_get, slice_index_or}
+use Rattle.std.specs.Prelude.{slice_get, slice_index_or}
 use Rattle.jp_facts.proofs.Members.{In, from_in, in_flat_map}
-use Rattle.jp_base.specs.Sets.{Has}
 use Rattle.jp_query.specs.declared.Expr.{Expr}
 use Rattle.jp_query.specs.Meaning.{Row, Env}
 use Rattle.jp_query.specs.Outermost.{Outer, outermost}
 use Rattle.jp_query.specs.Parts.{ColumnRef}
-use Rattle.jp_induction.specs.Alike.{Alike, none, more}
+use Rattle.jp_induction.specs.Alike.{Alike, none}
 use Rattle.jp_induction.proofs.Alike.{alike_weaker}
 use Rattle.jp_laws.specs.SameCells.{IsSameCell, IsSamePresence, AreTwins}
 use Rattle.jp_laws.proofs.TwinLaws.{twins_kept, twin_cell, twin_presence}
-use Rattle.jp_lists.specs.Lists.{Listed, Listing, sublink_rows, rels_of_some, rels_of_block, block_of_sublink, around_block, listed_block, nothing_listed, listed_from, listing, list_of}
+use Rattle.jp_lists.specs.Lists.{Listed, sublink_rows, rels_of_some, rels_of_block, around_block, listed_block, nothing_listed, listed_from, listing, list_of}
 use Rattle.jp_lists.specs.Seen.{IsPlaceholderOf, named, passed_on, AreSeenAlike, HasSameRows}
 use Rattle.jp_lists.proofs.Arounds.{each_from, in_range, from_behind, own_rels, stays, around_cell, around_presence, seen_same, maps_twins}
 use Rattle.jp_lists.proofs.BlocksAlike.{Alikeness, block_rows, block_tuples}

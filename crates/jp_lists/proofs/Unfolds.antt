@@ -5,13 +5,11 @@ use Rattle.jp_facts.proofs.Members.{In, from_in, in_flat_map}
 use Rattle.jp_query.specs.declared.Expr.{Expr}
 use Rattle.jp_query.specs.Meaning.{Row, Env, with_rows, without}
 use Rattle.jp_query.specs.Outermost.{Outer, outermost}
-use Rattle.jp_query.specs.Parts.{ColumnRef}
 use Rattle.jp_induction.specs.Alike.{Alike, none, more}
-use Rattle.jp_induction.proofs.Alike.{alike_same}
 use Rattle.jp_induction.proofs.Between.{Kept}
 use Rattle.jp_induction.proofs.EachPart.{Each, each_anyway}
 use Rattle.jp_laws.specs.SameCells.{IsSameCell, IsSamePresence}
-use Rattle.jp_lists.specs.Lists.{Listed, Listing, sublink_rows, only_rows, rels_of_block, block_of_sublink, around_block, listed_block, nothing_listed, listing_of, listed_from, listing}
+use Rattle.jp_lists.specs.Lists.{Listed, Listing, sublink_rows, only_rows, block_of_sublink, around_block, listed_block, nothing_listed, listing_of, listed_from, listing}
 use Rattle.jp_lists.specs.Seen.{HasSameRows}
 use Rattle.jp_lists.proofs.BlocksAlike.{Alikeness, block_rows, block_tuples}
 use Rattle.jp_lists.proofs.GivenCells.{Sees}

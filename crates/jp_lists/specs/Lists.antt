@@ -134,3 +134,7 @@ listing prepared tables = listing_of 0 (listed_from prepared.blocks prepared.poo
 -- the rows that a block lists in an environment
 abbrev pub list_of : Prepared → (ℕ → List Row) → ℕ → Env → List Row
 list_of prepared tables number outer = (listing prepared tables number outer).rows
+
+-- the run of a block in an environment
+abbrev pub run_in : Prepared → (ℕ → List Row) → Block → Env → Run
+run_in prepared tables block env = run_of_block prepared.blocks tables (listing prepared tables) env block

@@ -1,9 +1,12 @@
 -- What a block sees of the environment around it.
-use Rattle.std.specs.Prelude.{◌≡◌, ◌⊎◌, ℕ, List, Contains}
+use Rattle.std.specs.Prelude.{◌≡◌, ◌⊎◌, ℕ, List, length, Contains}
 use Rattle.jp_eval.specs.Evaluation.{CanEvaluate}
 use Rattle.jp_query.specs.declared.Expr.{Expr}
 use Rattle.jp_query.specs.Meaning.{Row, Env}
 use Rattle.jp_query.specs.Outermost.{Outer}
+use Rattle.jp_query.specs.Typing.{IsBoolean}
+use Rattle.jp_frame.specs.Maps.{Map}
+use Rattle.jp_lists.specs.Steps.{Run}
 use Rattle.jp_query.specs.Parts.{ColumnRef}
 use Rattle.jp_laws.specs.SameCells.{IsSameCell, IsSamePresence}
 use Rattle.jp_query.specs.Fitting.{IsCellAt, IsRowFor}
@@ -37,3 +40,11 @@ HasSameRows rows others sublink = rows sublink.number ≡ others sublink.number
 -- an expression can be evaluated, with these rows for its sublinks
 abbrev pub IsEvaluated : (ℕ → List Row) → Env → Expr → Type 0
 IsEvaluated rows env e = CanEvaluate rows e env
+
+-- a condition can be evaluated at a map of a run, and is boolean
+pub record IsTested (run : Run) (m : Map) (e : Expr) : Type 0 where
+  pub evaluated : CanEvaluate (run.sublinks (run.environment m)) e (run.environment m)
+  pub boolean : IsBoolean e
+
+abbrev pub HasPlaces : ℕ → Map → Type 0
+HasPlaces n m = length m ≡ n

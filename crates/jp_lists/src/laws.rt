@@ -1,8 +1,16 @@
-ghost use Rattle.std.specs.Prelude.{◌≡◌, ℕ, List, All, Contains, map};
+ghost use Rattle.std.specs.Prelude.{◌≡◌, ℕ, List, All, Contains, IsSome, map, length};
 ghost use Rattle.jp_frame.specs.Maps.{Map};
-ghost use Rattle.jp_lists.specs.Lists.{list_of, listing, sublink_rows, around_block, run_of_block, listed_block};
+ghost use Rattle.jp_lists.specs.Lists.{list_of, listing, sublink_rows, around_block, run_in, listed_block};
+ghost use Rattle.jp_joins.specs.Conditions.{CanJoin, CanLookUp};
 ghost use Rattle.jp_laws.specs.SameCells.{IsSameCell, IsSamePresence};
-ghost use Rattle.jp_lists.specs.Seen.{AreSeenAlike, FitsOutside, IsInside, IsEvaluated, HasSameRows};
+ghost use Rattle.jp_lists.specs.Seen.{AreSeenAlike, FitsOutside, IsInside, IsEvaluated, IsTested, HasPlaces, HasSameRows};
+ghost use Rattle.jp_lists.specs.Steps.{Run, meant_of, tree_list};
+ghost use Rattle.jp_problem.specs.Keys.{key_of};
+ghost use Rattle.jp_problem.specs.StepClauses.{scan_clauses};
+ghost use Rattle.jp_problem.specs.Trees.{Tree, IsLegalTree, set_of};
+ghost use Rattle.jp_problem.specs.declared.types.Method.{Method};
+ghost use Rattle.jp_problem.specs.declared.types.Problem.{Problem};
+ghost use Rattle.jp_problem.specs.declared.types.Step.{Step};
 ghost use Rattle.jp_query.specs.declared.Expr.{Expr};
 ghost use Rattle.jp_query.specs.Meaning.{Row, Env, value_given, with_rows};
 ghost use Rattle.jp_query.specs.Outermost.{outermost};
@@ -40,7 +48,7 @@ pub fn lists_fit()
         All (IsInside whole.scope env) (listing prepared (rows_of_tables tables) number env).tuples }
     ensures maps { (prepared : Prepared) (whole : IsWhole prepared) (tables : TableRows) (number : ℕ) (block : Block) (env : Env) (m : Map) →
         Belong whole.schema tables → IsBlockAt prepared number block → FitsOutside prepared whole.scope number env →
-        IsInside whole.scope (around_block block env) ((run_of_block prepared.blocks (rows_of_tables tables) (listing prepared (rows_of_tables tables)) env block).environment m) }
+        IsInside whole.scope (around_block block env) ((run_in prepared (rows_of_tables tables) block env).environment m) }
 {}
 
 /// A law: where the outer references of a block fit, those of the blocks that it uses fit too, around it for its items and
@@ -57,6 +65,23 @@ pub fn what_a_block_evaluates_fits()
         Belong whole.schema tables → IsBlockAt prepared number block → FitsOutside prepared whole.scope number env → IsInside whole.scope (around_block block env) inside →
         All (IsEvaluated (sublink_rows prepared.blocks (listing prepared (rows_of_tables tables)) inside) inside) (exprs_in block) }
     ensures pairs { (scope : Scope) (outer : Env) (left : Env) (right : Env) (rels : ℕ) → IsInside scope outer left → IsInside scope outer right → IsInside scope outer (with_rows rels left right) }
+{}
+
+/// A law: what a plan's scans and steps test can be evaluated at each map that they take or form, and is boolean. So each step
+/// of a legal tree can be run over what its sides list, and its tuples be looked up by a key where it has one.
+pub fn steps_of_a_plan_can_be_run()
+    ensures scan { (prepared : Prepared) (whole : IsWhole prepared) (tables : TableRows) (number : ℕ) (block : Block) (env : Env) (i : ℕ) (m : Map) →
+        Belong whole.schema tables → IsBlockAt prepared number block → FitsOutside prepared whole.scope number env →
+        All (IsTested (run_in prepared (rows_of_tables tables) block env) m) (scan_clauses block.problem i) }
+    ensures join { (prepared : Prepared) (whole : IsWhole prepared) (tables : TableRows) (number : ℕ) (block : Block) (env : Env) (how : Method) (kind : Step) (left : Tree) (right : Tree) →
+        Belong whole.schema tables → IsBlockAt prepared number block → FitsOutside prepared whole.scope number env → IsLegalTree block.problem (Tree.Join how kind left right) →
+        CanJoin (meant_of (run_in prepared (rows_of_tables tables) block env) block.problem (set_of left) (set_of right) kind) kind
+        (tree_list (run_in prepared (rows_of_tables tables) block env) block.problem left) (tree_list (run_in prepared (rows_of_tables tables) block env) block.problem right) }
+    ensures look_up { (prepared : Prepared) (whole : IsWhole prepared) (tables : TableRows) (number : ℕ) (block : Block) (env : Env) (how : Method) (kind : Step) (left : Tree) (right : Tree) →
+        Belong whole.schema tables → IsBlockAt prepared number block → FitsOutside prepared whole.scope number env → IsLegalTree block.problem (Tree.Join how kind left right) → IsSome (key_of block.problem (set_of left) (set_of right) kind) →
+        CanLookUp (meant_of (run_in prepared (rows_of_tables tables) block env) block.problem (set_of left) (set_of right) kind)
+        (tree_list (run_in prepared (rows_of_tables tables) block env) block.problem left) (tree_list (run_in prepared (rows_of_tables tables) block env) block.problem right) }
+    ensures width { (run : Run) (problem : Problem) (tree : Tree) → All (HasPlaces (length problem.items)) (tree_list run problem tree) }
 {}
 
 /// A law: what a block gives is made of what the blocks behind it give.

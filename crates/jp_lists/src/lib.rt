@@ -7,5 +7,6 @@ mod laws;
 
 pub use laws::{
     a_block_gives_what_its_plan_lists, a_list_depends_on_what_its_block_sees,
-    a_value_with_given_rows_depends_on_its_own_columns, lists_fit, what_a_block_evaluates_fits,
+    a_value_with_given_rows_depends_on_its_own_columns, lists_fit, steps_of_a_plan_can_be_run,
+    what_a_block_evaluates_fits,
 };
