@@ -1,13 +1,11 @@
 -- A step between two columns of small numbers can be run by each method.
-use Rattle.std.proofs.Common.{◌≡◌, ◌∙◌, ap, ap₂, sym, subst, refl, ℕ, zero, suc, ◌<◌, ◌≤◌, ◌^◌, ◌⊎◌, inl, inr, true, false, Option, Some, None, List, [], ◌∷◌, ◌++◌, length, get_or, arith, map}
-use Rattle.std.specs.Prelude.{All, Contains, ◌==◌, ◌↔◌, slice_index_or}
+use Rattle.std.proofs.Common.{◌≡◌, ◌∙◌, ap, ap₂, sym, subst, refl, ℕ, zero, suc, ◌<◌, ◌≤◌, ◌^◌, inl, inr, Option, Some, None, List, [], ◌∷◌, ◌++◌, length, get_or, arith}
+use Rattle.std.specs.Prelude.{All, Contains, ◌↔◌, slice_index_or}
 use Rattle.std.proofs.lemmas.List.{get_or-map, length-map}
 use Rattle.std.proofs.lemmas.List.Elements.{All-append}
 use Rattle.jp_base.specs.declared.values.Ty.TheVariants as ty
-use Rattle.jp_base.specs.declared.values.Value.{Value}
-use Rattle.jp_query.specs.Conditions.{judged_expr, knows_columns, keeps_bounds, IsBoundedExpr}
-use Rattle.jp_query.specs.Fitting.{FitsLent, IsCellAt, IsLent, own_columns, own_ins}
-use Rattle.jp_query.specs.Meaning.{Row, Env, ValueIn, Tuples, SortKey, RowsIn, cell_in, given, no_tables, expr_value, tree_tuples, order_key, output_value, query_rows}
+use Rattle.jp_query.specs.Fitting.{IsCellAt, IsLent, own_columns, own_ins}
+use Rattle.jp_query.specs.Meaning.{Env, ValueIn, Tuples, SortKey, RowsIn, cell_in, given, no_tables, expr_value, tree_tuples, order_key, output_value, query_rows}
 use Rattle.jp_query.specs.declared.CmpOp.TheVariants as cmp
 use Rattle.jp_query.specs.declared.Expr.TheFolds.{fold-roll-Expr}
 use Rattle.jp_query.specs.declared.Expr.TheOpen.{Expr-F}
@@ -16,7 +14,7 @@ use Rattle.jp_query.specs.Parts.{ColumnRef}
 use Rattle.jp_query.specs.Scopes.{Column, Scope}
 use Rattle.jp_query.specs.Tables.{IsCellOf}
 use Rattle.jp_query.specs.TreeExamples.{col}
-use Rattle.jp_query.specs.Typing.{IsBoolean, IsTypedExpr}
+use Rattle.jp_query.specs.Typing.{IsBoolean}
 use Rattle.jp_query.specs.declared.Expr.{Expr}
 use Rattle.jp_query.proofs.TreeRules.{folds}
 use Rattle.jp_eval.specs.Evaluation.{CanEvaluate}
@@ -25,7 +23,7 @@ use Rattle.jp_problem.specs.declared.types.Step.TheVariants as step
 use Rattle.jp_problem.specs.Equalities.{equals, has_sublink}
 use Rattle.jp_query.specs.declared.JoinKind.TheVariants as join
 use Rattle.jp_frame.specs.Maps.{Map, at, both}
-use Rattle.jp_joins.specs.Conditions.{AreApart, CanEvaluateAt, CanJoin, CanLookUp, CanLookUpBy, CanTest}
+use Rattle.jp_joins.specs.Conditions.{AreApart, CanEvaluateAt, CanJoin, CanLookUp, CanTest}
 use Rattle.jp_joins.specs.Meant.{Meant, value_at}
 use Rattle.jp_joins.specs.Tuples.{map_of, maps_of}
 use Rattle.jp_joins.specs.declared.tuples.Tuple.{Tuple}

@@ -7,7 +7,6 @@ use Rattle.jp_query.specs.declared.Expr.TheOpen.{JoinTree-F}
 use Rattle.jp_query.specs.declared.Expr.TheViews.{roll-JoinTree, roll-Query}
 use Rattle.jp_query.specs.declared.Query.{Query}
 use Rattle.jp_query.specs.declared.IsTest.TheVariants as is
-use Rattle.jp_query.specs.declared.JoinKind.{JoinKind}
 use Rattle.jp_query.specs.Meaning.{Row, Env}
 use Rattle.jp_query.specs.TreeExamples.{col, equals, exists_by, test}
 use Rattle.jp_frame.specs.Maps.{Map, at}

@@ -1,4 +1,4 @@
-use Rattle.std.proofs.Common.{refl, sym}
+use Rattle.std.proofs.Common.{refl}
 use Rattle.jp_joins_tests.proofs.StepLaws.{tuples_join, tuples_look_up}
 use Rattle.jp_joins_tests.proofs.steps.run.Goals as goal
 
