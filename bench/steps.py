@@ -10,13 +10,11 @@ HashMap that finds the same pairs: a list of right tuples for each number, witho
 that `hash` takes at most twice its time. `tuples` makes the tuples of both sides and stops, and `arena` writes a pair for
 each left tuple too, so what `hash` takes more than `arena` is its table and its lists.
 """
-import shutil
-import subprocess
 import sys
 import tempfile
 from pathlib import Path
 
-from timing import TOP, least, peak_memory
+from timing import built, least, peak_memory
 
 MAIN = """//! Runs a step between two columns made in code: the words are what is timed and the number of rows.
 #![tactic(auto)]
@@ -51,30 +49,12 @@ fn main(rt: HostRuntime) -> ExitCode {
 }
 """
 
-NEEDS = "steps_bench: jp_base jp_query jp_problem jp_joins jp_joins_tests\n"
+NEEDS = "jp_base jp_query jp_problem jp_joins jp_joins_tests"
 WORKS = ("tuples", "arena", "plain", "hash", "merge")
 
 
-def built():
-    """The program, proved and built in a copy of the repository."""
-    copy = Path(tempfile.mkdtemp(prefix="steps-bench-")) / "copy"
-    shutil.copytree(TOP, copy, ignore=shutil.ignore_patterns("out", ".git", "__pycache__"))
-    (copy / ".git").mkdir()
-    source = copy / "crates" / "steps_bench" / "src"
-    source.mkdir(parents=True)
-    (source / "main.rt").write_text(MAIN, encoding="utf-8")
-    with open(copy / "crates.txt", "a", encoding="utf-8") as lines:
-        lines.write(NEEDS)
-    done = subprocess.run(["rt", "run"], cwd=source.parent, capture_output=True, check=False)
-    program = source.parent / "out" / "steps_bench"
-    if not program.exists():
-        sys.exit(done.stdout.decode()[-2000:])
-    print(f"program: {program}")
-    return program
-
-
 def main(arguments):
-    program = str(Path(arguments[0]).resolve() if arguments else built())
+    program = str(Path(arguments[0]).resolve() if arguments else built("steps_bench", NEEDS, {"src/main.rt": MAIN}))
     rows = arguments[1] if len(arguments) > 1 else "1000000"
     seconds = {}
     with tempfile.TemporaryDirectory() as folder:
