@@ -7,13 +7,11 @@ Where PROGRAM isn't given, a program is made in a copy of this repository, prove
 the path that is then printed to time it again. A star links the first item with each other one, a clique each two items;
 neither has a special join, so each split of each set is looked at. Wanted are at most 40 ns a split.
 """
-import shutil
-import subprocess
 import sys
 import tempfile
 from pathlib import Path
 
-from timing import TOP, least, peak_memory
+from timing import built, least, peak_memory
 
 MAIN = """//! Searches for the plan of a problem made in code: the words are its shape and its number of items.
 #![tactic(auto)]
@@ -159,36 +157,16 @@ abbrev pub invariant-links : goal.invariant-links
 invariant-links l = All IsLink l.links.items
 """
 
-NEEDS = "plan_bench: jp_base jp_query jp_problem jp_cost jp_tree jp_search jp_search_tests sqlite_items\n"
-
-
-def write(path, text):
-    path.parent.mkdir(parents=True, exist_ok=True)
-    path.write_text(text, encoding="utf-8")
-
-
-def built():
-    """The program, proved and built in a copy of the repository."""
-    copy = Path(tempfile.mkdtemp(prefix="plan-bench-")) / "copy"
-    shutil.copytree(TOP, copy, ignore=shutil.ignore_patterns("out", ".git", "__pycache__"))
-    (copy / ".git").mkdir()
-    crate = copy / "crates" / "plan_bench"
-    write(crate / "src" / "main.rt", MAIN)
-    write(crate / "proofs" / "rows_of" / "Invariants.antt", ROWS)
-    for name in ("star", "clique", "link_before"):
-        write(crate / "proofs" / name / "Invariants.antt", LINKS.replace("NAME", name))
-    with open(copy / "crates.txt", "a", encoding="utf-8") as lines:
-        lines.write(NEEDS)
-    done = subprocess.run(["rt", "run"], cwd=crate, capture_output=True, check=False)
-    program = crate / "out" / "plan_bench"
-    if not program.exists():
-        sys.exit(done.stdout.decode()[-2000:])
-    print(f"program: {program}")
-    return program
+NEEDS = "jp_base jp_query jp_problem jp_cost jp_tree jp_search jp_search_tests sqlite_items"
+FILES = {
+    "src/main.rt": MAIN,
+    "proofs/rows_of/Invariants.antt": ROWS,
+    **{f"proofs/{name}/Invariants.antt": LINKS.replace("NAME", name) for name in ("star", "clique", "link_before")},
+}
 
 
 def main(arguments):
-    program = str(Path(arguments[0]).resolve() if arguments else built())
+    program = str(Path(arguments[0]).resolve() if arguments else built("plan_bench", NEEDS, FILES))
     with tempfile.TemporaryDirectory() as folder:
         start = least([program, "1"], folder)
         for shape in ("star", "clique", "chain"):

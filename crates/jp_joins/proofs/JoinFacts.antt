@@ -1,15 +1,14 @@
 -- What the conditions of a step give at each of its tuples.
-use Rattle.std.proofs.Common.{◌≡◌, ◌∙◌, ap, sym, subst, ℕ, ◌<◌, Bool, filter, List, [], ◌∷◌, length, get_or, take, drop, arith}
+use Rattle.std.proofs.Common.{◌≡◌, ◌∙◌, ap, sym, subst, ℕ, ◌<◌, List, [], ◌∷◌, length, get_or, arith}
 use Rattle.std.specs.Prelude.{All, Some}
 use Rattle.std.proofs.lemmas.List.{get_or-map, length-map}
-use Rattle.std.proofs.lemmas.List.Elements.{All-drop, All-filter, All-take}
 use Rattle.jp_problem.specs.declared.types.Step.{Step}
 use Rattle.jp_query.specs.declared.Expr.{Expr}
 use Rattle.jp_frame.specs.Maps.{Map, both}
 use Rattle.jp_joins.specs.Conditions.{AreApart, CanEvaluateAt, CanJoin, CanPair, CanTest, sides}
 use Rattle.jp_joins.specs.Meant.{Meant, value_at}
 use Rattle.jp_joins.specs.Tuples.{map_of, maps_of}
-use Rattle.jp_joins.specs.Working.{CanKeep, CanPairAll}
+use Rattle.jp_joins.specs.Working.{CanKeep, CanTryAll}
 use Rattle.jp_joins.specs.declared.tuples.Tuple.{Tuple}
 
 -- a fact of all maps at their tuples
@@ -20,19 +19,16 @@ module _ (meant : Meant) (asked : Step) (lefts rights : List Tuple) (can : CanJo
   pub can_keep : (k : ℕ) (d : Tuple) → k < length lefts → CanKeep meant (map_of (get_or lefts k d))
   can_keep k d h = (of_tuples (CanTest meant) lefts can.left_test k d h).filters
 
-  pub can_pair_all : (k : ℕ) (d : Tuple) → k < length lefts → CanPairAll meant (get_or lefts k d) rights
+  pub can_pair_all : (k : ℕ) (d : Tuple) → k < length lefts → All (λ right. CanPair meant (map_of (get_or lefts k d)) (map_of right)) rights
   can_pair_all k d h j b low = record {
     wide = of_tuples (λ m. length m ≡ can.width) lefts can.left_width k d h ∙ sym (of_tuples (λ m. length m ≡ can.width) rights can.right_width j b low);
     apart = of_tuples (AreApart (map_of (get_or lefts k d))) rights (of_tuples (λ m. All (AreApart m) (maps_of rights)) lefts can.apart k d h) j b low;
     test = of_tuples (λ m. CanTest meant (both (map_of (get_or lefts k d)) m)) rights (of_tuples (λ n. All (λ m. CanTest meant (both n m)) (maps_of rights)) lefts can.pair_test k d h) j b low;
   }
 
-  pub can_pair_right : (j : ℕ) (e : Tuple) → j < length rights → All (λ left. CanPair meant (map_of left) (map_of (get_or rights j e))) lefts
-  can_pair_right j e low k d h = can_pair_all k d h j e low
-
-  -- the right tuples that pass a test
-  pub looked_pairs : (p : Tuple → Bool) (ts : List Tuple) (k : ℕ) (d : Tuple) → k < length lefts → ts ≡ filter p rights → CanPairAll meant (get_or lefts k d) ts
-  looked_pairs p ts k d h e = subst (CanPairAll meant (get_or lefts k d)) (sym e) (All-filter p (λ b. CanPair meant (map_of (get_or lefts k d)) (map_of b)) rights (can_pair_all k d h))
+  -- where no member of the ON list is known to be true, each right tuple can be tried
+  pub tries_unknown : (known : ℕ) → known ≡ length meant.on → (k : ℕ) (d : Tuple) → k < length lefts → CanTryAll meant known (get_or lefts k d) rights
+  tries_unknown known none k d h j b low = record { pair = can_pair_all k d h j b low; known = λ e inside. absurd (omega (arith, none, inside)) }
 
 -- the value of an expression at one of the maps
 pub value_of_map : (meant : Meant) (e : Expr) (ts : List Tuple) (k : ℕ) (d : Tuple) → k < length ts → value_at meant (get_or (maps_of ts) k []) e ≡ value_at meant (map_of (get_or ts k d)) e
@@ -48,10 +44,6 @@ module _ (meant : Meant) (first second : Expr) (is : meant.key ≡ Some (first, 
 
   pub second_can : All (λ t. CanEvaluateAt meant (map_of t) second) ts
   second_can k d h = of_sides k d h 1 first (omega arith)
-
--- a part of the right tuples
-pub sliced_pairs : (meant : Meant) (a : Tuple) (n m : ℕ) (ts : List Tuple) → CanPairAll meant a ts → CanPairAll meant a (take n (drop m ts))
-sliced_pairs meant a n m ts all = All-take (λ b. CanPair meant (map_of a) (map_of b)) n (drop m ts) (All-drop (λ b. CanPair meant (map_of a) (map_of b)) m ts all)
 
 -- the tuple that stands past the end of a list
 abbrev pub no_tuple : Tuple

@@ -2,6 +2,8 @@ pub mod FrameFacts
 pub mod HoldsFacts
 pub mod JoinFacts
 pub mod KeyFacts
+pub mod KeyPlaceFacts
+pub mod TryFacts
 pub mod LendingFacts
 pub mod LookFacts
 pub mod MergeFacts

@@ -22,8 +22,9 @@ use Rattle.jp_joins.specs.Conditions.{CanLookUpBy}
 use Rattle.jp_joins.specs.Keys.{has_value, tuple_has}
 use Rattle.jp_joins.specs.Meant.{Meant, is_match, left_gives, list_holds, value_at}
 use Rattle.jp_joins.specs.Tuples.{map_of, maps_of}
+use Rattle.jp_joins.specs.Working.{truth_at}
 use Rattle.jp_joins.specs.declared.tuples.Tuple.{Tuple}
-use Rattle.jp_joins.proofs.HoldsFacts.{holds_first, truth_at}
+use Rattle.jp_joins.proofs.HoldsFacts.{holds_first}
 use Rattle.jp_joins.proofs.JoinFacts.{of_tuples}
 use Rattle.jp_joins.proofs.KeyFacts.{equal_turned}
 
@@ -124,13 +125,18 @@ module _ (meant : Meant) (first second : Expr) (lefts rights : List Tuple) (look
     | inr there ↦ equal_turned (value_at meant m first) (value_at meant m second) ∙ equal_on meant m meant.on second first there all
   ]
 
-  pub key_of_match : (k : ℕ) (d : Tuple) (b : Map) → k < length lefts → In b (maps_of rights) → is_match meant (both (map_of (get_or lefts k d)) b) ≡ true
-      → are_equal (value_at meant (map_of (get_or lefts k d)) first) (value_at meant b second) ≡ true
-  key_of_match k d b h there match =
+  -- at a pair each side has the value that it has at its own map
+  pub sides_at_pair : (k : ℕ) (d : Tuple) (b : Map) → k < length lefts → In b (maps_of rights)
+      → are_equal (value_at meant (both (map_of (get_or lefts k d)) b) first) (value_at meant (both (map_of (get_or lefts k d)) b) second) ≡ are_equal (value_at meant (map_of (get_or lefts k d)) first) (value_at meant b second)
+  sides_at_pair k d b h there =
       let a = map_of (get_or lefts k d) in
       let of_first = all_in (λ b. value_at meant (both a b) first ≡ value_at meant a first) (maps_of rights) b (of_tuples (λ a. All (λ b. value_at meant (both a b) first ≡ value_at meant a first) (maps_of rights)) lefts look.first_alone k d h) there in
       let of_second = all_in (λ b. value_at meant (both a b) second ≡ value_at meant b second) (maps_of rights) b (of_tuples (λ a. All (λ b. value_at meant (both a b) second ≡ value_at meant b second) (maps_of rights)) lefts look.second_alone k d h) there in
-      sym (ap₂ are_equal of_first of_second) ∙ sides_equal (both a b) match
+      ap₂ are_equal of_first of_second
+
+  pub key_of_match : (k : ℕ) (d : Tuple) (b : Map) → k < length lefts → In b (maps_of rights) → is_match meant (both (map_of (get_or lefts k d)) b) ≡ true
+      → are_equal (value_at meant (map_of (get_or lefts k d)) first) (value_at meant b second) ≡ true
+  key_of_match k d b h there match = sym (sides_at_pair k d b h there) ∙ sides_equal (both (map_of (get_or lefts k d)) b) match
 
   -- what a left tuple gives with the right tuples that have its key
   pub looked_gives : (k : ℕ) (d : Tuple) (v : Value) (ts : List Tuple) → k < length lefts → v ≡ value_at meant (map_of (get_or lefts k d)) first → ts ≡ filter (tuple_has meant second v) rights

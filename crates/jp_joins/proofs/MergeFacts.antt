@@ -1,5 +1,5 @@
 -- The conditions of a step hold for its sides in another order.
-use Rattle.std.proofs.Common.{◌≡◌, ◌∙◌, ◌<◌, ℕ, ap₂, sym, subst, true, List, length, map, get_or, arith}
+use Rattle.std.proofs.Common.{◌≡◌, ◌∙◌, ◌<◌, ℕ, ap, ap₂, sym, subst, true, List, length, map, get_or, arith}
 use Rattle.std.specs.Prelude.{All}
 use Rattle.std.specs.List.Sorted.{IsPermutation}
 use Rattle.std.proofs.lemmas.List.Sorted.{All-permutation}
@@ -12,14 +12,16 @@ use Rattle.jp_problem.specs.declared.types.Step.{Step}
 use Rattle.jp_frame.specs.Maps.{Map, both}
 use Rattle.jp_frame.specs.Methods.{sorted_by}
 use Rattle.jp_joins.specs.Conditions.{AreApart, CanJoin, CanLookUpBy, CanTest}
+use Rattle.jp_joins.specs.KeyPlaces.{IsKeyPlace}
 use Rattle.jp_joins.specs.Meant.{Meant, is_match, value_at}
-use Rattle.jp_joins.specs.Sorting.{IsKeyed, MatchesKey, map_of_keyed, stands_before, tuple_of_keyed}
+use Rattle.jp_joins.specs.Sorting.{CanTryEqual, IsKeyed, MatchesKey, map_of_keyed, stands_before, tuple_of_keyed}
 use Rattle.jp_joins.specs.Tuples.{map_of, maps_of}
-use Rattle.jp_joins.specs.Working.{CanKeep, CanPairAll}
+use Rattle.jp_joins.specs.Working.{CanKeep, CanTry}
 use Rattle.jp_joins.specs.declared.sorting.Keyed.{Keyed}
 use Rattle.jp_joins.specs.declared.tuples.Tuple.{Tuple}
-use Rattle.jp_joins.proofs.JoinFacts.{can_keep, can_pair_all, no_tuple}
+use Rattle.jp_joins.proofs.JoinFacts.{can_keep, no_tuple}
 use Rattle.jp_joins.proofs.LookFacts.{key_of_match}
+use Rattle.jp_joins.proofs.TryFacts.{can_try}
 use Rattle.jp_joins.proofs.WalkFacts.{maps_of_tuples}
 use Rattle.jp_joins.proofs.SortedFacts.{maps_weak, permutes}
 
@@ -86,8 +88,13 @@ module _ (meant : Meant) (asked : Step) (first second : Expr) (left right : List
   pub keeps_all : All (λ k. CanKeep meant (map_of_keyed k)) lefts
   keeps_all k d h = subst (λ t. CanKeep meant (map_of t)) (tuple_at k d h) (can_keep meant asked left_tuples right_tuples can k no_tuple (in_tuples k h))
 
-  pub pairs_all : (tuples : List Tuple) → tuples ≡ right_tuples → All (λ k. CanPairAll meant (tuple_of_keyed k) tuples) lefts
-  pairs_all tuples is k d h = subst (CanPairAll meant (tuple_of_keyed (get_or lefts k d))) (sym is) (subst (λ t. CanPairAll meant t right_tuples) (tuple_at k d h) (can_pair_all meant asked left_tuples right_tuples can k no_tuple (in_tuples k h)))
+  pub tries_all : (known : ℕ) → IsKeyPlace meant.on first second known → All (λ left. CanTryEqual meant known left rights) lefts
+  tries_all known key k d h j e low equal =
+      let b = get_or rights j e in
+      let at = tuple_at k d h in
+      subst (λ (t : Tuple). CanTry meant known (map_of t) (map_of_keyed b)) at
+      (can_try meant asked first second left_tuples right_tuples can looks known key k no_tuple (tuple_of_keyed b) (in_tuples k h) (in_map tuple_of_keyed b rights (to_in b rights (Contains-get_or rights j e low)))
+      (ap₂ are_equal (ap (λ (t : Tuple). value_at meant (map_of t) first) at ∙ sym (left_keys k d h)) (sym (right_keys j e low)) ∙ equal))
 
   right_there : (j : ℕ) (e : Keyed) → j < length rights → In (map_of_keyed (get_or rights j e)) (maps_of right_tuples)
   right_there j e low = subst (λ ms. In (map_of_keyed (get_or rights j e)) ms) (sym (maps_of_tuples rights)) (in_map map_of_keyed (get_or rights j e) rights (to_in (get_or rights j e) rights (Contains-get_or rights j e low)))

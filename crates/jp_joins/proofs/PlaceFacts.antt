@@ -1,12 +1,12 @@
 -- The places of the maps that pass a test.
 use Rattle.std.proofs.Common.{◌≡◌, ◌∙◌, ap, sym, subst, refl, ℕ, zero, suc, ◌+◌, ◌<◌, ◌||◌, Bool, true, false, cond, List, [], ◌∷◌, ◌++◌, filter, length, get_or, take, arith, append_assoc}
-use Rattle.std.specs.Prelude.{nat_eq}
+use Rattle.std.specs.Prelude.{All, nat_eq}
 use Rattle.std.specs.List.{list_any}
 use Rattle.std.proofs.lemmas.List.{take_more, map-append, length-take-le, length-map}
 use Rattle.std.proofs.lemmas.List.Folds.{list_any-append}
-use Rattle.jp_induction.proofs.EachPart.{Each, each_append}
+use Rattle.jp_induction.proofs.EachPart.{Each, all_of_each, each_append}
 use Rattle.jp_frame.specs.Maps.{Map}
-use Rattle.jp_joins.specs.Keys.{maps_at, once_if, places_where}
+use Rattle.jp_joins.specs.Keys.{map_at, maps_at, once_if, places_where}
 use Rattle.jp_joins.specs.Tuples.{map_of, maps_of}
 use Rattle.jp_joins.specs.declared.tuples.Tuple.{Tuple}
 
@@ -49,18 +49,32 @@ module _ (p : Map → Bool) where
   first_map true pre ms m rest more e = ap (λ x. x ∷ maps_at (pre ++ m ∷ ms) rest) (here pre ms m) ∙ ap (λ xs. m ∷ xs) e
   first_map false pre ms m rest more e = e
 
+  longer : (xs : List Map) (x : Map) → length (xs ++ x ∷ []) ≡ suc (length xs)
+  longer [] x = refl
+  longer (y ∷ xs) x = ap suc (longer xs x)
+
   at_places_from : (pre ms : List Map) → maps_at (pre ++ ms) (places_where p (length pre) ms) ≡ filter p ms
   at_places_from pre [] = refl
   at_places_from pre (m ∷ ms) = first_map (p m) pre ms m (places_where p (suc (length pre)) ms) (filter p ms)
       (subst (λ xs. maps_at xs (places_where p (suc (length pre)) ms) ≡ filter p ms) (append_assoc pre (m ∷ []) ms)
       (subst (λ n. maps_at ((pre ++ m ∷ []) ++ ms) (places_where p n ms) ≡ filter p ms) (longer pre m) (at_places_from (pre ++ m ∷ []) ms)))
-    where
-      longer : (xs : List Map) (x : Map) → length (xs ++ x ∷ []) ≡ suc (length xs)
-      longer [] x = refl
-      longer (y ∷ xs) x = ap suc (longer xs x)
 
   pub at_places : (ms : List Map) → maps_at ms (places_where p 0 ms) ≡ filter p ms
   at_places ms = at_places_from [] ms
+
+  -- and so passes the map at each of them
+  passes_once : (pre ms : List Map) (m : Map) (b : Bool) → p m ≡ b → Each (λ k. p (map_at (pre ++ m ∷ ms) k) ≡ true) (once_if b (length pre))
+  passes_once pre ms m true e = (ap p (here pre ms m) ∙ e, tt)
+  passes_once pre ms m false e = tt
+
+  places_pass_from : (pre ms : List Map) → Each (λ k. p (map_at (pre ++ ms) k) ≡ true) (places_where p (length pre) ms)
+  places_pass_from pre [] = tt
+  places_pass_from pre (m ∷ ms) = each_append (λ k. p (map_at (pre ++ m ∷ ms) k) ≡ true) (once_if (p m) (length pre)) (places_where p (suc (length pre)) ms) (passes_once pre ms m (p m) refl)
+      (subst (λ xs. Each (λ k. p (map_at xs k) ≡ true) (places_where p (suc (length pre)) ms)) (append_assoc pre (m ∷ []) ms)
+      (subst (λ n. Each (λ k. p (map_at ((pre ++ m ∷ []) ++ ms) k) ≡ true) (places_where p n ms)) (longer pre m) (places_pass_from (pre ++ m ∷ []) ms)))
+
+  pub places_pass : (ms : List Map) → All (λ k. p (map_at ms k) ≡ true) (places_where p 0 ms)
+  places_pass ms = all_of_each (λ k. p (map_at ms k) ≡ true) (places_where p 0 ms) (places_pass_from [] ms)
 
   -- each map that passes has its place among them
   pub is_place : (i k : ℕ) (ms : List Map) → k < length ms → p (get_or ms k []) ≡ true → list_any (nat_eq (i + k)) (places_where p i ms) ≡ true

@@ -7,21 +7,22 @@ use Rattle.std.specs.Ordering.{is_lt, ordering_reverse}
 use Rattle.std.specs.List.Sorted.{IsSortedBy}
 use Rattle.std.proofs.Math.Seq.{drop-nil}
 use Rattle.std.proofs.lemmas.List.{drop-map, map-append, take-map, take_all, take_more}
-use Rattle.std.proofs.lemmas.List.Elements.{filter-append}
+use Rattle.std.proofs.lemmas.List.Elements.{Contains-get_or, filter-append}
 use Rattle.std.proofs.lemmas.Grind.{flat_map-append}
 use Rattle.std.proofs.lemmas.List.Sorted.{sorted_far}
 use Rattle.jp_base.specs.Values.{are_equal, total_order_of}
 use Rattle.jp_base.specs.declared.values.Value.{Value}
 use Rattle.jp_base.specs.declared.values.Value.TheVariants as value
 use Rattle.jp_base.proofs.ValueOrder.{equal_is, tie_equal, values_total}
-use Rattle.jp_facts.proofs.Members.{In, from_in}
+use Rattle.jp_facts.proofs.Members.{In, from_filter, from_in, from_map, to_in}
 use Rattle.jp_query.specs.declared.JoinKind.{JoinKind}
 use Rattle.jp_query.specs.declared.JoinKind.TheVariants as join
 use Rattle.jp_frame.specs.Maps.{Map, both}
 use Rattle.jp_frame.specs.Methods.{is_matched, left_rows, matches, once_where}
-use Rattle.jp_joins.specs.Meant.{left_gives}
-use Rattle.jp_joins.specs.Sorting.{MatchesKey, key_at, key_before, keyed_before, map_of_keyed, tuple_of_keyed, value_of_keyed}
-use Rattle.jp_joins.specs.Tuples.{maps_of}
+use Rattle.jp_joins.specs.Meant.{Meant, left_gives}
+use Rattle.jp_joins.specs.Sorting.{CanTryEqual, MatchesKey, key_at, key_before, keyed_before, map_of_keyed, tuple_of_keyed, value_of_keyed}
+use Rattle.jp_joins.specs.Tuples.{map_of, maps_of}
+use Rattle.jp_joins.specs.Working.{CanTry, CanTryAll}
 use Rattle.jp_joins.specs.declared.tuples.Tuple.{Tuple}
 use Rattle.jp_joins.specs.declared.sorting.Keyed.{Keyed}
 use Rattle.jp_joins.proofs.LookFacts.{no_true}
@@ -163,6 +164,25 @@ next_of keep gives ks i d before now h e f =
     ∙ ap (filter keep) (sym (flat_map-append gives (map map_of_keyed (take i ks)) (a ∷ [])))
     ∙ ap (λ ms. filter keep (flat_map gives ms)) (sym (ap (map map_of_keyed) (take_more ks i d h) ∙ map-append map_of_keyed (take i ks) (get_or ks i d ∷ [])))
 
+-- the tuples of a run are those that have the key
+run_tuples : (rights : List Keyed) (v : Value) (d : Keyed) (from to : ℕ) (tuples slice : List Tuple) → IsSortedBy keyed_before rights → IsRun rights v from to → tuples ≡ map tuple_of_keyed rights → slice ≡ take (to - from) (drop from tuples)
+    → slice ≡ map tuple_of_keyed (filter (has_key_of v) rights)
+run_tuples rights v d from to tuples slice up run are is =
+    is ∙ ap (λ ts. take (to - from) (drop from ts)) are ∙ ap (take (to - from)) (drop-map tuple_of_keyed from rights) ∙ take-map tuple_of_keyed (to - from) (drop from rights)
+    ∙ ap (map tuple_of_keyed) (run_filters rights up v from to run d)
+
+-- and they can be tried
+pub run_tries : (meant : Meant) (known : ℕ) (left : Keyed) (rights : List Keyed) (d : Keyed) (from to : ℕ) (tuples slice : List Tuple) → IsSortedBy keyed_before rights → IsRun rights (value_of_keyed left) from to → tuples ≡ map tuple_of_keyed rights → slice ≡ take (to - from) (drop from tuples)
+    → CanTryEqual meant known left rights → CanTryAll meant known (tuple_of_keyed left) slice
+run_tries meant known left rights d from to tuples slice up run are is tries j e low =
+    let v = value_of_keyed left in
+    let t = get_or slice j e in
+    let of = from_map tuple_of_keyed t (filter (has_key_of v) rights) (subst (In t) (run_tuples rights v d from to tuples slice up run are is) (to_in t slice (Contains-get_or slice j e low))) in
+    let has = from_filter (has_key_of v) of.0 rights of.1 in
+    let at = from_in of.0 rights has.1 in
+    subst (λ (u : Tuple). CanTry meant known (map_of (tuple_of_keyed left)) (map_of u)) of.2
+    (subst (λ (x : Keyed). are_equal v (value_of_keyed x) ≡ true → CanTry meant known (map_of_keyed left) (map_of_keyed x)) at.2 (tries at.0 of.0 at.1) has.0)
+
 pub walk_next : (keep test : Map → Bool) (kind : JoinKind) (lefts rights : List Keyed) (tuples slice : List Tuple) (i : ℕ) (d : Keyed) (from to : ℕ) (before now : List Map) → i < length lefts
     → IsSortedBy keyed_before rights → IsRun rights (key_at lefts i d) from to → MatchesKey test (get_or lefts i d) rights → tuples ≡ map tuple_of_keyed rights → slice ≡ take (to - from) (drop from tuples)
     → before ≡ filter keep (flat_map (left_gives kind test (map map_of_keyed rights)) (map map_of_keyed (take i lefts)))
@@ -172,8 +192,7 @@ walk_next keep test kind lefts rights tuples slice i d from to before now h up r
     let left = get_or lefts i d in
     let v = key_at lefts i d in
     let maps : maps_of slice ≡ map map_of_keyed (filter (has_key_of v) rights) =
-    ap maps_of (is ∙ ap (λ ts. take (to - from) (drop from ts)) are ∙ ap (take (to - from)) (drop-map tuple_of_keyed from rights) ∙ take-map tuple_of_keyed (to - from) (drop from rights)
-    ∙ ap (map tuple_of_keyed) (run_filters rights up v from to run d)) ∙ maps_of_tuples (filter (has_key_of v) rights) in
+    ap maps_of (run_tuples rights v d from to tuples slice up run are is) ∙ maps_of_tuples (filter (has_key_of v) rights) in
     let same = run_gives test (map_of_keyed left) (has_key_of v) kind rights (λ k there match. let c = from_in k rights there in subst (λ (x : Keyed). test (both (map_of_keyed left) (map_of_keyed x)) ≡ true → are_equal v (value_of_keyed x) ≡ true) c.2 (matching c.0 k c.1) match) in
     next_of keep (left_gives kind test (map map_of_keyed rights)) lefts i d before now h e (f ∙ ap (λ ms. before ++ filter keep ms) (ap (λ ms. left_gives kind test ms (map_of_keyed left)) maps ∙ same))
 

@@ -1,5 +1,6 @@
 pub mod Conditions
 pub mod Frames
+pub mod KeyPlaces
 pub mod Keys
 pub mod Lending
 pub mod Meant

@@ -10,6 +10,7 @@ use Rattle.jp_frame.specs.Maps.{Map, both}
 use Rattle.jp_frame.specs.Methods.{sorted_by}
 use Rattle.jp_joins.specs.Meant.{Meant, plain_list, value_at}
 use Rattle.jp_joins.specs.Tuples.{map_of}
+use Rattle.jp_joins.specs.Working.{CanTry}
 use Rattle.jp_joins.specs.declared.sorting.Keyed.{Keyed}
 use Rattle.jp_joins.specs.declared.tuples.Tuple.{Tuple}
 
@@ -56,3 +57,7 @@ key_at ks k d = value_of_keyed (slice_index_or ks k d)
 -- the right tuples that match a left one have its key
 abbrev pub MatchesKey : (Map → Bool) → Keyed → List Keyed → Type 0
 MatchesKey test left rights = All (λ right. test (both (map_of_keyed left) (map_of_keyed right)) ≡ true → are_equal (value_of_keyed left) (value_of_keyed right) ≡ true) rights
+
+-- a left tuple can be tried with the right ones that have its key
+abbrev pub CanTryEqual : Meant → ℕ → Keyed → List Keyed → Type 0
+CanTryEqual meant known left rights = All (λ right. are_equal (value_of_keyed left) (value_of_keyed right) ≡ true → CanTry meant known (map_of_keyed left) (map_of_keyed right)) rights

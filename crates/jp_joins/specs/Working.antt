@@ -4,7 +4,10 @@ use Rattle.std.specs.declared.alloc.Global.{Global}
 use Rattle.jp_base.specs.declared.memory.Memory.{Memory}
 use Rattle.jp_query.specs.declared.JoinKind.{JoinKind}
 use Rattle.jp_query.specs.declared.JoinKind.TheVariants as join
-use Rattle.jp_query.specs.Meaning.{Row}
+use Rattle.jp_base.specs.declared.truth.Truth.{Truth}
+use Rattle.jp_query.specs.declared.Expr.{Expr}
+use Rattle.jp_query.specs.Meaning.{Row, truth_given}
+use Rattle.jp_query.specs.Operators.{is_true}
 use Rattle.jp_frame.specs.Maps.{Map, both}
 use Rattle.jp_joins.specs.Conditions.{CanPair, CanEvaluateAt}
 use Rattle.std.specs.List.{list_any}
@@ -26,9 +29,22 @@ abbrev pub only_if : Bool → Map → Option Map
 only_if true m = Some m
 only_if false m = None
 
+-- the truth of a condition at a map
+abbrev pub truth_at : Meant → Map → Expr → Truth
+truth_at meant m e = truth_given (meant.sublink_rows m) e (meant.environment m)
+
+-- the condition at the place is true at the map; past the end of the list there is none
+abbrev pub IsKnown : Meant → List Expr → ℕ → Map → Type 0
+IsKnown meant conds known m = (d : Expr) → known < length conds → is_true (truth_at meant m (slice_index_or conds known d)) ≡ true
+
+-- a left and a right map can be tried, where the member of the ON list at the place is known to be true
+pub record CanTry (meant : Meant) (place : ℕ) (a b : Map) : Type 0 where
+  pub pair : CanPair meant a b
+  pub known : IsKnown meant meant.on place (both a b)
+
 -- a left and each of some right tuples can be tried
-abbrev pub CanPairAll : Meant → Tuple → List Tuple → Type 0
-CanPairAll meant left rights = All (λ right. CanPair meant (map_of left) (map_of right)) rights
+abbrev pub CanTryAll : Meant → ℕ → Tuple → List Tuple → Type 0
+CanTryAll meant known left rights = All (λ right. CanTry meant known (map_of left) (map_of right)) rights
 
 abbrev pub CanKeep : Meant → Map → Type 0
 CanKeep meant m = All (CanEvaluateAt meant m) meant.filters

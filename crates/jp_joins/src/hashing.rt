@@ -2,11 +2,13 @@ ghost use Rattle.std.specs.Prelude.{◌≡◌, ◌↔◌, ◌++◌, IfOk, OnOk, 
 ghost use Rattle.jp_query.specs.declared.JoinKind.TheVariants as join;
 ghost use Rattle.jp_problem.specs.declared.types.Step.TheVariants as step;
 ghost use Rattle.jp_joins.specs.Conditions.{CanJoin, CanLookUp, CanLookUpBy};
+ghost use Rattle.jp_joins.specs.KeyPlaces.{IsKeyPlace};
 ghost use Rattle.jp_joins.specs.Keys.{AreMade, table_at, value_of_some};
 ghost use Rattle.jp_joins.specs.Meant.{GivesRows, is_match, left_gives, plain_list};
 ghost use Rattle.jp_joins.specs.Tuples.{map_of, maps_of};
-ghost use Rattle.jp_joins.specs.Working.{CanKeep, CanPairAll, IsReady, is_kept};
+ghost use Rattle.jp_joins.specs.Working.{CanKeep, CanTryAll, IsReady, is_kept};
 
+use crate::key_places::key_place;
 use crate::keys::{Key, Made, key_cell, key_of, made_keys};
 use crate::numbers::numbers_of;
 use crate::table::table_of;
@@ -37,17 +39,18 @@ pub fn hash<'t, E: TupleEnv, S: Fn(Tuple<'t>, SubNo) -> Result<Vec<Row>, Memory>
 {
     let on_sublinks = numbers_of(alloc, env.on())?;
     let filter_sublinks = numbers_of(alloc, env.filters())?;
-    let work = Work {
-        alloc,
-        env,
-        subs,
-        kind,
-        on_sublinks: on_sublinks.as_slice(),
-        filter_sublinks: filter_sublinks.as_slice(),
-        arena,
-    };
     match env.key() {
         Some((first, second)) => {
+            let work = Work {
+                alloc,
+                env,
+                subs,
+                kind,
+                known: key_place(env.on(), first, second),
+                on_sublinks: on_sublinks.as_slice(),
+                filter_sublinks: filter_sublinks.as_slice(),
+                arena,
+            };
             let list = looked_up(&work, first, second, left, right)?;
             Ok(list)
         }
@@ -56,7 +59,7 @@ pub fn hash<'t, E: TupleEnv, S: Fn(Tuple<'t>, SubNo) -> Result<Vec<Row>, Memory>
 }
 
 /// What each left tuple gives, with the right tuples tried that have its key.
-pub fn looked_up<'t, E: TupleEnv, S: Fn(Tuple<'t>, SubNo) -> Result<Vec<Row>, Memory>>(
+fn looked_up<'t, E: TupleEnv, S: Fn(Tuple<'t>, SubNo) -> Result<Vec<Row>, Memory>>(
     work: &Work<'_, 't, E, S>,
     first: &Expr,
     second: &Expr,
@@ -68,6 +71,7 @@ pub fn looked_up<'t, E: TupleEnv, S: Fn(Tuple<'t>, SubNo) -> Result<Vec<Row>, Me
     requires join { CanJoin (E.meant work.now.env.now) work.now.kind (maps_of lefts.now) (maps_of rights.now) }
     requires key { (E.meant work.now.env.now).key ≡ Some (first.now, second.now) }
     requires look_up { CanLookUpBy (E.meant work.now.env.now) first.now second.now (maps_of lefts.now) (maps_of rights.now) }
+    requires known { IsKeyPlace (E.meant work.now.env.now).on first.now second.now work.now.known }
     ensures { IfOk result (λ v. maps_of v.items ≡ plain_list (E.meant work.now.env.now) (maps_of lefts.now) (maps_of rights.now)) }
 {
     let made = Made {
@@ -92,6 +96,7 @@ fn looked_up_by<'k, 't, E: TupleEnv, S: Fn(Tuple<'t>, SubNo) -> Result<Vec<Row>,
     requires ready { IsReady (E.meant work.now.env.now) work.now.on_sublinks.now work.now.filter_sublinks.now (S.post work.now.subs.now) }
     requires join { CanJoin (E.meant work.now.env.now) work.now.kind (maps_of lefts.now) (maps_of rights.now) }
     requires look_up { CanLookUpBy (E.meant work.now.env.now) first.now second.now (maps_of lefts.now) (maps_of rights.now) }
+    requires known { IsKeyPlace (E.meant work.now.env.now).on first.now second.now work.now.known }
     requires env { env.now ≡ work.now.env.now }
     requires left { AreMade (E.meant work.now.env.now) first.now (maps_of lefts.now) made.now.left.items }
     requires right { AreMade (E.meant work.now.env.now) second.now (maps_of rights.now) made.now.right.items }
@@ -120,7 +125,7 @@ fn add_looked_up<'k, 't, E: TupleEnv, S: Fn(Tuple<'t>, SubNo) -> Result<Vec<Row>
     requires ready { IsReady (E.meant work.now.env.now) work.now.on_sublinks.now work.now.filter_sublinks.now (S.post work.now.subs.now) }
     requires kind { ((E.meant work.now.env.now).kind ≡ join.Inner) ↔ (work.now.kind ≡ step.Inner) }
     requires left { CanKeep (E.meant work.now.env.now) (map_of left) }
-    requires pairs { CanPairAll (E.meant work.now.env.now) left (table_at table.now (value_of_some key.now)) }
+    requires pairs { CanTryAll (E.meant work.now.env.now) work.now.known left (table_at table.now (value_of_some key.now)) }
     ensures { OnOk result (maps_of found.new.items ≡ maps_of found.old.items
         ++ filter (is_kept (E.meant work.now.env.now)) (left_gives (E.meant work.now.env.now).kind (is_match (E.meant work.now.env.now)) (maps_of (table_at table.now (value_of_some key.now))) (map_of left.entry))) }
 {

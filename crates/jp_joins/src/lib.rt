@@ -3,6 +3,7 @@
 
 mod at;
 mod hashing;
+mod key_places;
 mod keys;
 mod laws;
 mod lending;

@@ -6,13 +6,15 @@ ghost use Rattle.jp_base.specs.Values.{are_equal};
 ghost use Rattle.jp_query.specs.declared.JoinKind.TheVariants as join;
 ghost use Rattle.jp_problem.specs.declared.types.Step.TheVariants as step;
 ghost use Rattle.jp_joins.specs.Conditions.{CanJoin, CanLookUp, CanLookUpBy};
+ghost use Rattle.jp_joins.specs.KeyPlaces.{IsKeyPlace};
 ghost use Rattle.jp_joins.specs.Keys.{AreMade};
 ghost use Rattle.jp_joins.specs.Meant.{GivesRows, is_match, left_gives};
-ghost use Rattle.jp_joins.specs.Sorting.{MatchesKey, key_at, key_before, keyed_before, map_of_keyed, merged_list, tuple_of_keyed};
+ghost use Rattle.jp_joins.specs.Sorting.{CanTryEqual, MatchesKey, key_at, key_before, keyed_before, map_of_keyed, merged_list, tuple_of_keyed};
 ghost use Rattle.jp_joins.specs.Tuples.{maps_of};
-ghost use Rattle.jp_joins.specs.Working.{CanKeep, CanPairAll, IsReady, is_kept};
+ghost use Rattle.jp_joins.specs.Working.{CanKeep, IsReady, is_kept};
 ghost use Rattle.jp_joins.specs.declared.sorting.Keyed.{Keyed as KeyedTuple};
 
+use crate::key_places::key_place;
 use crate::keys::{Made, made_keys};
 use crate::numbers::numbers_of;
 use crate::sorting::{Keyed, in_key_order, key_order, tuples_of};
@@ -43,17 +45,18 @@ pub fn merge<'t, E: TupleEnv, S: Fn(Tuple<'t>, SubNo) -> Result<Vec<Row>, Memory
 {
     let on_sublinks = numbers_of(alloc, env.on())?;
     let filter_sublinks = numbers_of(alloc, env.filters())?;
-    let work = Work {
-        alloc,
-        env,
-        subs,
-        kind,
-        on_sublinks: on_sublinks.as_slice(),
-        filter_sublinks: filter_sublinks.as_slice(),
-        arena,
-    };
     match env.key() {
         Some((first, second)) => {
+            let work = Work {
+                alloc,
+                env,
+                subs,
+                kind,
+                known: key_place(env.on(), first, second),
+                on_sublinks: on_sublinks.as_slice(),
+                filter_sublinks: filter_sublinks.as_slice(),
+                arena,
+            };
             let list = merged(&work, first, second, left, right)?;
             Ok(list)
         }
@@ -74,6 +77,7 @@ fn merged<'t, E: TupleEnv, S: Fn(Tuple<'t>, SubNo) -> Result<Vec<Row>, Memory>>(
     requires join { CanJoin (E.meant work.now.env.now) work.now.kind (maps_of lefts.now) (maps_of rights.now) }
     requires key { (E.meant work.now.env.now).key ≡ Some (first.now, second.now) }
     requires look_up { CanLookUpBy (E.meant work.now.env.now) first.now second.now (maps_of lefts.now) (maps_of rights.now) }
+    requires known { IsKeyPlace (E.meant work.now.env.now).on first.now second.now work.now.known }
     ensures { IfOk result (λ v. maps_of v.items ≡ merged_list (E.meant work.now.env.now) (maps_of lefts.now) (maps_of rights.now)) }
 {
     let made = Made {
@@ -99,6 +103,7 @@ fn merged_by<'k, 't, E: TupleEnv, S: Fn(Tuple<'t>, SubNo) -> Result<Vec<Row>, Me
     requires join { CanJoin (E.meant work.now.env.now) work.now.kind (maps_of lefts.now) (maps_of rights.now) }
     requires key { (E.meant work.now.env.now).key ≡ Some (first.now, second.now) }
     requires look_up { CanLookUpBy (E.meant work.now.env.now) first.now second.now (maps_of lefts.now) (maps_of rights.now) }
+    requires known { IsKeyPlace (E.meant work.now.env.now).on first.now second.now work.now.known }
     requires env { env.now ≡ work.now.env.now }
     requires left_made { AreMade (E.meant work.now.env.now) first.now (maps_of lefts.now) made.now.left.items }
     requires right_made { AreMade (E.meant work.now.env.now) second.now (maps_of rights.now) made.now.right.items }
@@ -123,7 +128,7 @@ fn walked<'t, E: TupleEnv, S: Fn(Tuple<'t>, SubNo) -> Result<Vec<Row>, Memory>>(
     requires kind { ((E.meant work.now.env.now).kind ≡ join.Inner) ↔ (work.now.kind ≡ step.Inner) }
     requires tuples { tuples.now ≡ map tuple_of_keyed rights.now }
     requires keep { All (λ left. CanKeep (E.meant work.now.env.now) (map_of_keyed left)) lefts.now }
-    requires pairs { All (λ left. CanPairAll (E.meant work.now.env.now) (tuple_of_keyed left) tuples.now) lefts.now }
+    requires pairs { All (λ left. CanTryEqual (E.meant work.now.env.now) work.now.known left rights.now) lefts.now }
     requires left_sorted { IsSortedBy keyed_before lefts.now }
     requires right_sorted { IsSortedBy keyed_before rights.now }
     requires keys { All (λ left. MatchesKey (is_match (E.meant work.now.env.now)) left rights.now) lefts.now }

@@ -1,4 +1,4 @@
-ghost use Rattle.std.specs.Prelude.{◌≡◌, IfOk};
+ghost use Rattle.std.specs.Prelude.{◌≡◌, IfOk, length};
 ghost use Rattle.jp_joins.specs.Conditions.{CanJoin};
 ghost use Rattle.jp_joins.specs.Meant.{GivesRows, plain_list};
 ghost use Rattle.jp_joins.specs.Tuples.{maps_of};
@@ -34,6 +34,7 @@ pub fn nest<'t, E: TupleEnv, S: Fn(Tuple<'t>, SubNo) -> Result<Vec<Row>, Memory>
         env,
         subs,
         kind,
+        known: env.on().len(),
         on_sublinks: on_sublinks.as_slice(),
         filter_sublinks: filter_sublinks.as_slice(),
         arena,
@@ -50,6 +51,7 @@ fn tried_all<'t, E: TupleEnv, S: Fn(Tuple<'t>, SubNo) -> Result<Vec<Row>, Memory
 ) -> Result<Vec<Tuple<'t>>, Memory>
     requires can { S.IsAlwaysCallable work.now.subs.now }
     requires ready { IsReady (E.meant work.now.env.now) work.now.on_sublinks.now work.now.filter_sublinks.now (S.post work.now.subs.now) }
+    requires none_known { work.now.known ≡ length (E.meant work.now.env.now).on }
     requires join { CanJoin (E.meant work.now.env.now) work.now.kind (maps_of lefts.now) (maps_of rights.now) }
     ensures { IfOk result (λ v. maps_of v.items ≡ plain_list (E.meant work.now.env.now) (maps_of lefts.now) (maps_of rights.now)) }
 {

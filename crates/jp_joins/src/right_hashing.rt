@@ -3,12 +3,14 @@ ghost use Rattle.jp_query.specs.declared.JoinKind.TheVariants as join;
 ghost use Rattle.jp_problem.specs.declared.types.Step.TheVariants as step;
 ghost use Rattle.jp_frame.specs.Maps.{Map};
 ghost use Rattle.jp_frame.specs.Methods.{matches_to};
-ghost use Rattle.jp_joins.specs.Conditions.{CanJoin, CanLookUp, CanLookUpBy, CanPair};
-ghost use Rattle.jp_joins.specs.Keys.{AreMade, maps_at, once_if, table_at, value_of_some};
+ghost use Rattle.jp_joins.specs.Conditions.{CanJoin, CanLookUp, CanLookUpBy};
+ghost use Rattle.jp_joins.specs.KeyPlaces.{IsKeyPlace};
+ghost use Rattle.jp_joins.specs.Keys.{AreMade, map_at, maps_at, once_if, table_at, value_of_some};
 ghost use Rattle.jp_joins.specs.Meant.{GivesRows, is_match, right_list};
 ghost use Rattle.jp_joins.specs.Tuples.{map_of, maps_of};
-ghost use Rattle.jp_joins.specs.Working.{AreMarks, CanKeep, IsReady, Marks, is_kept, is_not};
+ghost use Rattle.jp_joins.specs.Working.{AreMarks, CanKeep, CanTry, IsReady, Marks, is_kept, is_not};
 
+use crate::key_places::key_place;
 use crate::keys::{Key, Made, key_cell, key_of, made_keys};
 use crate::numbers::numbers_of;
 use crate::table::places_of;
@@ -41,17 +43,18 @@ pub fn hash_right<'t, E: TupleEnv, S: Fn(Tuple<'t>, SubNo) -> Result<Vec<Row>, M
 {
     let on_sublinks = numbers_of(alloc, env.on())?;
     let filter_sublinks = numbers_of(alloc, env.filters())?;
-    let work = Work {
-        alloc,
-        env,
-        subs,
-        kind,
-        on_sublinks: on_sublinks.as_slice(),
-        filter_sublinks: filter_sublinks.as_slice(),
-        arena,
-    };
     match env.key() {
         Some((first, second)) => {
+            let work = Work {
+                alloc,
+                env,
+                subs,
+                kind,
+                known: key_place(env.on(), first, second),
+                on_sublinks: on_sublinks.as_slice(),
+                filter_sublinks: filter_sublinks.as_slice(),
+                arena,
+            };
             let list = looked_up(&work, first, second, left, right)?;
             Ok(list)
         }
@@ -72,6 +75,7 @@ fn looked_up<'t, E: TupleEnv, S: Fn(Tuple<'t>, SubNo) -> Result<Vec<Row>, Memory
     requires join { CanJoin (E.meant work.now.env.now) work.now.kind (maps_of lefts.now) (maps_of rights.now) }
     requires key { (E.meant work.now.env.now).key ≡ Some (first.now, second.now) }
     requires look_up { CanLookUpBy (E.meant work.now.env.now) first.now second.now (maps_of lefts.now) (maps_of rights.now) }
+    requires known { IsKeyPlace (E.meant work.now.env.now).on first.now second.now work.now.known }
     requires left { (E.meant work.now.env.now).kind ≡ join.Left }
     ensures { IfOk result (λ v. maps_of v.items ≡ right_list (E.meant work.now.env.now) (maps_of lefts.now) (maps_of rights.now)) }
 {
@@ -97,6 +101,7 @@ fn looked_up_by<'k, 't, E: TupleEnv, S: Fn(Tuple<'t>, SubNo) -> Result<Vec<Row>,
     requires ready { IsReady (E.meant work.now.env.now) work.now.on_sublinks.now work.now.filter_sublinks.now (S.post work.now.subs.now) }
     requires join { CanJoin (E.meant work.now.env.now) work.now.kind (maps_of lefts.now) (maps_of rights.now) }
     requires look_up { CanLookUpBy (E.meant work.now.env.now) first.now second.now (maps_of lefts.now) (maps_of rights.now) }
+    requires known { IsKeyPlace (E.meant work.now.env.now).on first.now second.now work.now.known }
     requires left { (E.meant work.now.env.now).kind ≡ join.Left }
     requires env { env.now ≡ work.now.env.now }
     requires left_made { AreMade (E.meant work.now.env.now) first.now (maps_of lefts.now) made.now.left.items }
@@ -143,8 +148,8 @@ fn add_looked_up<'k, 't, E: TupleEnv, S: Fn(Tuple<'t>, SubNo) -> Result<Vec<Row>
     requires can { S.IsAlwaysCallable work.now.subs.now }
     requires ready { IsReady (E.meant work.now.env.now) work.now.on_sublinks.now work.now.filter_sublinks.now (S.post work.now.subs.now) }
     requires kind { ((E.meant work.now.env.now).kind ≡ join.Inner) ↔ (work.now.kind ≡ step.Inner) }
-    requires pairs { All (λ left. CanPair (E.meant work.now.env.now) (map_of left) (map_of right)) lefts.now }
     requires places { All (λ place. place < length lefts.now) (table_at table.now (value_of_some key.now)) }
+    requires pairs { All (λ place. CanTry (E.meant work.now.env.now) work.now.known (map_at (maps_of lefts.now) place) (map_of right)) (table_at table.now (value_of_some key.now)) }
     requires marks { length marks.now.items ≡ length lefts.now }
     ensures more { OnOk result (maps_of found.new.items ≡ maps_of found.old.items
         ++ filter (is_kept (E.meant work.now.env.now)) (matches_to (is_match (E.meant work.now.env.now)) (maps_at (maps_of lefts.now) (table_at table.now (value_of_some key.now))) (map_of right.entry))) }
@@ -176,8 +181,8 @@ fn add_right<'t, E: TupleEnv, S: Fn(Tuple<'t>, SubNo) -> Result<Vec<Row>, Memory
     requires can { S.IsAlwaysCallable work.now.subs.now }
     requires ready { IsReady (E.meant work.now.env.now) work.now.on_sublinks.now work.now.filter_sublinks.now (S.post work.now.subs.now) }
     requires kind { ((E.meant work.now.env.now).kind ≡ join.Inner) ↔ (work.now.kind ≡ step.Inner) }
-    requires pairs { All (λ left. CanPair (E.meant work.now.env.now) (map_of left) (map_of right)) lefts.now }
     requires places { All (λ place. place < length lefts.now) places.now }
+    requires pairs { All (λ place. CanTry (E.meant work.now.env.now) work.now.known (map_at (maps_of lefts.now) place) (map_of right)) places.now }
     requires marks { length marks.now.items ≡ length lefts.now }
     ensures more { OnOk result (maps_of found.new.items ≡ maps_of found.old.items
         ++ filter (is_kept (E.meant work.now.env.now)) (matches_to (is_match (E.meant work.now.env.now)) (maps_at (maps_of lefts.now) places.now) (map_of right.entry))) }

@@ -22,7 +22,7 @@ pub fn table_of<'k, 't, E: TupleEnv>(
     requires { AreMade (E.meant env.now) side.now (maps_of tuples.now) made.now }
     ensures { IfOk result (λ table. (v : Datum) → table_at table v ≡ filter (tuple_has (E.meant env.now) side.now v) tuples.now) }
 {
-    let mut table = HashMap::new(alloc);
+    let mut table = HashMap::with_capacity(alloc, tuples.len())?;
     'tuples: for at in 0..tuples.len() {
         let key = key_of(key_cell(env, side, tuples, made, at));
         add(alloc, &mut table, key, tuples[at])?;
@@ -41,7 +41,7 @@ pub fn places_of<'k, E: TupleEnv>(
     requires { AreMade (E.meant env.now) side.now (maps_of tuples.now) made.now }
     ensures { IfOk result (λ table. (v : Datum) → table_at table v ≡ places_where (has_value (E.meant env.now) side.now v) 0 (maps_of tuples.now)) }
 {
-    let mut table = HashMap::new(alloc);
+    let mut table = HashMap::with_capacity(alloc, tuples.len())?;
     'tuples: for at in 0..tuples.len() {
         let key = key_of(key_cell(env, side, tuples, made, at));
         add(alloc, &mut table, key, at)?;

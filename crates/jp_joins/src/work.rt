@@ -4,11 +4,11 @@ ghost use Rattle.jp_query.specs.declared.JoinKind.TheVariants as join;
 ghost use Rattle.jp_problem.specs.declared.types.Step.TheVariants as step;
 ghost use Rattle.jp_frame.specs.Maps.{both};
 ghost use Rattle.jp_frame.specs.Methods.{is_matched, matches};
-ghost use Rattle.jp_joins.specs.Conditions.{CanEvaluateAt, CanPair};
+ghost use Rattle.jp_joins.specs.Conditions.{CanEvaluateAt};
 ghost use Rattle.jp_joins.specs.Lending.{numbers_in_all};
 ghost use Rattle.jp_joins.specs.Meant.{GivesRows, is_match, left_gives, list_holds};
 ghost use Rattle.jp_joins.specs.Tuples.{map_of, maps_of};
-ghost use Rattle.jp_joins.specs.Working.{CanKeep, CanPairAll, IsReady, is_kept, only_if};
+ghost use Rattle.jp_joins.specs.Working.{CanKeep, CanTry, CanTryAll, IsKnown, IsReady, is_kept, only_if};
 
 use crate::at::all_hold;
 use crate::lending::lent_for;
@@ -27,6 +27,9 @@ pub struct Work<'w, 't, E, S> {
     pub env: &'w E,
     pub subs: &'w S,
     pub kind: Step,
+    /// The place in the ON list of a member that is true at each pair that is tried, so that it isn't tested; the list's
+    /// length where there is none.
+    pub known: usize,
     /// The numbers of the sublinks of the ON list and of the filters.
     pub on_sublinks: &'w [SubNo],
     pub filter_sublinks: &'w [SubNo],
@@ -40,21 +43,23 @@ pub struct Outcome<'t> {
     pub placed: Option<Tuple<'t>>,
 }
 
-/// Whether the tuple makes a list of conditions true, whose sublinks have the numbers.
+/// Whether the tuple makes a list of conditions true, whose sublinks have the numbers. The one at `known` is true there.
 fn holds_at<'t, E: TupleEnv, S: Fn(Tuple<'t>, SubNo) -> Result<Vec<Row>, Memory>>(
     work: &Work<'_, 't, E, S>,
     conds: &[Expr],
+    known: usize,
     numbers: &[SubNo],
     tuple: Tuple<'t>,
 ) -> Result<bool, Memory>
     requires can { S.IsAlwaysCallable work.now.subs.now }
     requires gives { GivesRows (E.meant work.now.env.now) (S.post work.now.subs.now) }
     requires evaluable { All (CanEvaluateAt (E.meant work.now.env.now) (map_of tuple)) conds.now }
+    requires known { IsKnown (E.meant work.now.env.now) conds.now known (map_of tuple) }
     requires numbers { numbers.now ≡ numbers_in_all conds.now }
     ensures { IfOk result (λ b. b ≡ list_holds (E.meant work.now.env.now) conds.now (map_of tuple.entry)) }
 {
     let lent = lent_for(work.alloc, work.subs, tuple, numbers)?;
-    let holds = all_hold(work.alloc, work.env, conds, tuple, lent.as_slice())?;
+    let holds = all_hold(work.alloc, work.env, conds, known, tuple, lent.as_slice())?;
     Ok(holds)
 }
 
@@ -72,7 +77,8 @@ fn keeps<'t, E: TupleEnv, S: Fn(Tuple<'t>, SubNo) -> Result<Vec<Row>, Memory>>(
     match work.kind {
         Step::Inner => Ok(true),
         Step::By(_) => {
-            let holds = holds_at(work, work.env.filters(), work.filter_sublinks, tuple)?;
+            let filters = work.env.filters();
+            let holds = holds_at(work, filters, filters.len(), work.filter_sublinks, tuple)?;
             Ok(holds)
         }
     }
@@ -105,7 +111,7 @@ fn tried<'t, E: TupleEnv, S: Fn(Tuple<'t>, SubNo) -> Result<Vec<Row>, Memory>>(
 ) -> Result<Outcome<'t>, Memory>
     requires can { S.IsAlwaysCallable work.now.subs.now }
     requires ready { IsReady (E.meant work.now.env.now) work.now.on_sublinks.now work.now.filter_sublinks.now (S.post work.now.subs.now) }
-    requires pair { CanPair (E.meant work.now.env.now) (map_of left) (map_of right) }
+    requires pair { CanTry (E.meant work.now.env.now) work.now.known (map_of left) (map_of right) }
     ensures holds { IfOk result (λ tried. tried.holds ≡ is_match (E.meant work.now.env.now) (both (map_of left.entry) (map_of right.entry))) }
     ensures placed { IfOk result (λ tried. IfSome tried.placed (λ t. map_of t ≡ both (map_of left.entry) (map_of right.entry))) }
     ensures pair { OnOk result (pair.new.items ≡ both (map_of left.entry) (map_of right.entry)) }
@@ -116,14 +122,14 @@ fn tried<'t, E: TupleEnv, S: Fn(Tuple<'t>, SubNo) -> Result<Vec<Row>, Memory>>(
         let tuple = Tuple {
             rows: pair.as_slice(),
         };
-        let holds = all_hold(work.alloc, work.env, on, tuple, &[])?;
+        let holds = all_hold(work.alloc, work.env, on, work.known, tuple, &[])?;
         return Ok(Outcome {
             holds,
             placed: None,
         });
     }
     let tuple = placed(work.arena, pair.as_slice())?;
-    let holds = holds_at(work, on, work.on_sublinks, tuple)?;
+    let holds = holds_at(work, on, work.known, work.on_sublinks, tuple)?;
     Ok(Outcome {
         holds,
         placed: Some(tuple),
@@ -139,7 +145,7 @@ fn matched<'t, E: TupleEnv, S: Fn(Tuple<'t>, SubNo) -> Result<Vec<Row>, Memory>>
 ) -> Result<Option<Tuple<'t>>, Memory>
     requires can { S.IsAlwaysCallable work.now.subs.now }
     requires ready { IsReady (E.meant work.now.env.now) work.now.on_sublinks.now work.now.filter_sublinks.now (S.post work.now.subs.now) }
-    requires pair { CanPair (E.meant work.now.env.now) (map_of left) (map_of right) }
+    requires pair { CanTry (E.meant work.now.env.now) work.now.known (map_of left) (map_of right) }
     ensures { IfOk result (λ found. option_map map_of found ≡ only_if (is_match (E.meant work.now.env.now) (both (map_of left.entry) (map_of right.entry))) (both (map_of left.entry) (map_of right.entry))) }
 {
     let tried = tried(work, left, right, pair)?;
@@ -166,7 +172,7 @@ pub fn add_match<'t, E: TupleEnv, S: Fn(Tuple<'t>, SubNo) -> Result<Vec<Row>, Me
     requires can { S.IsAlwaysCallable work.now.subs.now }
     requires ready { IsReady (E.meant work.now.env.now) work.now.on_sublinks.now work.now.filter_sublinks.now (S.post work.now.subs.now) }
     requires kind { ((E.meant work.now.env.now).kind ≡ join.Inner) ↔ (work.now.kind ≡ step.Inner) }
-    requires pair { CanPair (E.meant work.now.env.now) (map_of left) (map_of right) }
+    requires pair { CanTry (E.meant work.now.env.now) work.now.known (map_of left) (map_of right) }
     ensures more { OnOk result (maps_of found.new.items ≡ maps_of found.old.items
         ++ filter (is_kept (E.meant work.now.env.now)) (matches (is_match (E.meant work.now.env.now)) (map_of right.entry ∷ []) (map_of left.entry))) }
     ensures any { IfOk result (λ b. b ≡ is_match (E.meant work.now.env.now) (both (map_of left.entry) (map_of right.entry))) }
@@ -191,7 +197,7 @@ fn add_matches<'t, E: TupleEnv, S: Fn(Tuple<'t>, SubNo) -> Result<Vec<Row>, Memo
     requires can { S.IsAlwaysCallable work.now.subs.now }
     requires ready { IsReady (E.meant work.now.env.now) work.now.on_sublinks.now work.now.filter_sublinks.now (S.post work.now.subs.now) }
     requires kind { ((E.meant work.now.env.now).kind ≡ join.Inner) ↔ (work.now.kind ≡ step.Inner) }
-    requires pairs { CanPairAll (E.meant work.now.env.now) left rights.now }
+    requires pairs { CanTryAll (E.meant work.now.env.now) work.now.known left rights.now }
     ensures more { OnOk result (maps_of found.new.items ≡ maps_of found.old.items
         ++ filter (is_kept (E.meant work.now.env.now)) (matches (is_match (E.meant work.now.env.now)) (maps_of rights.now) (map_of left.entry))) }
     ensures any { IfOk result (λ b. b ≡ is_matched (is_match (E.meant work.now.env.now)) (maps_of rights.now) (map_of left.entry)) }
@@ -213,7 +219,7 @@ fn has_match<'t, E: TupleEnv, S: Fn(Tuple<'t>, SubNo) -> Result<Vec<Row>, Memory
 ) -> Result<bool, Memory>
     requires can { S.IsAlwaysCallable work.now.subs.now }
     requires ready { IsReady (E.meant work.now.env.now) work.now.on_sublinks.now work.now.filter_sublinks.now (S.post work.now.subs.now) }
-    requires pairs { CanPairAll (E.meant work.now.env.now) left rights.now }
+    requires pairs { CanTryAll (E.meant work.now.env.now) work.now.known left rights.now }
     ensures { IfOk result (λ b. b ≡ is_matched (is_match (E.meant work.now.env.now)) (maps_of rights.now) (map_of left.entry)) }
 {
     'rights: for right in rights {
@@ -236,7 +242,7 @@ pub fn add_left<'t, E: TupleEnv, S: Fn(Tuple<'t>, SubNo) -> Result<Vec<Row>, Mem
     requires ready { IsReady (E.meant work.now.env.now) work.now.on_sublinks.now work.now.filter_sublinks.now (S.post work.now.subs.now) }
     requires kind { ((E.meant work.now.env.now).kind ≡ join.Inner) ↔ (work.now.kind ≡ step.Inner) }
     requires left { CanKeep (E.meant work.now.env.now) (map_of left) }
-    requires pairs { CanPairAll (E.meant work.now.env.now) left rights.now }
+    requires pairs { CanTryAll (E.meant work.now.env.now) work.now.known left rights.now }
     ensures { OnOk result (maps_of found.new.items ≡ maps_of found.old.items
         ++ filter (is_kept (E.meant work.now.env.now)) (left_gives (E.meant work.now.env.now).kind (is_match (E.meant work.now.env.now)) (maps_of rights.now) (map_of left.entry))) }
 {

@@ -8,7 +8,7 @@ use Rattle.jp_joins.specs.Meant.{is_match, left_gives, list_holds}
 use Rattle.jp_joins.specs.Sorting.{IsKeyed, keyed_before, map_of_keyed, merged_by, stands_before, tuple_of_keyed}
 use Rattle.jp_joins.specs.Tuples.{maps_of}
 use Rattle.jp_joins.specs.Working.{is_kept}
-use Rattle.jp_joins.proofs.MergeFacts.{keeps_all, keys_match, pairs_all}
+use Rattle.jp_joins.proofs.MergeFacts.{keeps_all, keys_match, tries_all}
 use Rattle.jp_joins.proofs.StepFacts.{kept_is}
 use Rattle.jp_joins.proofs.merging.merged_by.Goals as goal
 
@@ -43,7 +43,7 @@ walked-requires g c =
               (
                 keeps_all meant c.args.work.now.kind c.args.first.now c.args.second.now left right c.requires.join c.requires.look_up lefts rights left_is right_is left_keys right_keys,
                 (
-                  pairs_all meant c.args.work.now.kind c.args.first.now c.args.second.now left right c.requires.join c.requires.look_up lefts rights left_is right_is left_keys right_keys c.as_slice-6.result.now tuples,
+                  tries_all meant c.args.work.now.kind c.args.first.now c.args.second.now left right c.requires.join c.requires.look_up lefts rights left_is right_is left_keys right_keys c.args.work.now.known c.requires.known,
                   (
                     subst (IsSortedBy keyed_before) (sym l) c.in_ok-lefts.ensures.sorted,
                     (

@@ -1,17 +1,27 @@
 use Rattle.std.proofs.Common.{refl, get_or}
 use Rattle.jp_joins.specs.Meant.{is_match}
-use Rattle.jp_joins.specs.Sorting.{key_at, tuple_of_keyed}
+use Rattle.jp_joins.specs.Sorting.{key_at}
 use Rattle.jp_joins.specs.Tuples.{maps_of}
 use Rattle.jp_joins.specs.Working.{is_kept}
-use Rattle.jp_joins.proofs.JoinFacts.{sliced_pairs}
 use Rattle.jp_joins.proofs.SortedFacts.{no_keyed}
-use Rattle.jp_joins.proofs.WalkFacts.{IsRun, all_before, before_next, walk_next}
+use Rattle.jp_joins.proofs.WalkFacts.{IsRun, all_before, before_next, run_tries, walk_next}
 use Rattle.jp_joins.proofs.merging.walked.Goals as goal
 
 pub add_left-requires : goal.add_left-requires
 add_left-requires g c =
     let meant = g.E.TupleEnv.meant c.args.work.now.env.now in
-    λ k. ((refl, tt), (c.requires.can, (c.requires.ready, (c.requires.kind, (c.requires.keep c.lefts.at no_keyed c.lefts-test.true, sliced_pairs meant (tuple_of_keyed (get_or c.args.lefts.now c.lefts.at no_keyed)) _ _ c.args.tuples.now (c.requires.pairs c.lefts.at no_keyed c.lefts-test.true))))))
+    let from = c.first_not_before-from.result in
+    let to = c.first_unequal-to.result in
+    let all = all_before c.args.lefts.now c.args.rights.now c.requires.left_sorted c.lefts.at no_keyed c.lefts-test.true c.lefts.from from c.lefts.invariant.before c.first_not_before-from.ensures.before in
+    let run : IsRun c.args.rights.now (key_at c.args.lefts.now c.lefts.at no_keyed) from to = record {
+      ordered = c.first_unequal-to.ensures.bounds.0;
+      inside = c.first_unequal-to.ensures.bounds.1;
+      before = all;
+      equal = c.first_unequal-to.ensures.equal;
+      start = c.first_not_before-from.ensures.stop;
+      stop = c.first_unequal-to.ensures.stop;
+    } in
+    λ k. ((refl, tt), (c.requires.can, (c.requires.ready, (c.requires.kind, (c.requires.keep c.lefts.at no_keyed c.lefts-test.true, run_tries meant c.args.work.now.known (get_or c.args.lefts.now c.lefts.at no_keyed) c.args.rights.now no_keyed from to c.args.tuples.now _ c.requires.right_sorted run c.requires.tuples refl (c.requires.pairs c.lefts.at no_keyed c.lefts-test.true))))))
 
 pub lefts-preserved : goal.lefts-preserved
 lefts-preserved g c =

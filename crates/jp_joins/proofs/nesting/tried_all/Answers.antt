@@ -4,7 +4,7 @@ use Rattle.std.proofs.lemmas.List.{take_all}
 use Rattle.jp_joins.specs.Meant.{is_match, left_gives, list_holds}
 use Rattle.jp_joins.specs.Tuples.{maps_of}
 use Rattle.jp_joins.specs.Working.{is_kept}
-use Rattle.jp_joins.proofs.JoinFacts.{can_keep, can_pair_all}
+use Rattle.jp_joins.proofs.JoinFacts.{can_keep, tries_unknown}
 use Rattle.jp_joins.proofs.StepFacts.{kept_is}
 use Rattle.jp_joins.proofs.nesting.tried_all.Goals as goal
 
@@ -21,7 +21,7 @@ add_left-requires g c =
             c.requires.join.kind,
             (
               can_keep meant c.args.work.now.kind c.args.lefts.now c.args.rights.now c.requires.join c.lefts.left-index _ c.lefts-test.true,
-              can_pair_all meant c.args.work.now.kind c.args.lefts.now c.args.rights.now c.requires.join c.lefts.left-index _ c.lefts-test.true,
+              tries_unknown meant c.args.work.now.kind c.args.lefts.now c.args.rights.now c.requires.join c.args.work.now.known c.requires.none_known c.lefts.left-index _ c.lefts-test.true,
             ),
           ),
         ),

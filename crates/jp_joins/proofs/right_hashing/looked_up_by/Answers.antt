@@ -7,9 +7,10 @@ use Rattle.jp_joins.specs.Keys.{has_value, places_where, table_at, value_of_some
 use Rattle.jp_joins.specs.Meant.{is_match, value_at}
 use Rattle.jp_joins.specs.Tuples.{map_of, maps_of}
 use Rattle.jp_joins.specs.Working.{AreMarks, is_kept}
-use Rattle.jp_joins.proofs.JoinFacts.{can_keep, can_pair_right, no_tuple, value_of_map}
+use Rattle.jp_joins.proofs.JoinFacts.{can_keep, no_tuple, value_of_map}
 use Rattle.jp_joins.proofs.RightFacts.{looked_below, marks_looked, right_whole, to_looked}
 use Rattle.jp_joins.proofs.StepFacts.{left_next}
+use Rattle.jp_joins.proofs.TryFacts.{places_try}
 use Rattle.jp_joins.proofs.right_hashing.looked_up_by.Goals as goal
 
 pub add_looked_up-requires : goal.add_looked_up-requires
@@ -27,9 +28,10 @@ add_looked_up-requires g c =
           (
             c.requires.join.kind,
             (
-              can_pair_right meant c.args.work.now.kind c.args.lefts.now c.args.rights.now c.requires.join c.rights.at no_tuple c.rights-test.true,
+              looked_below meant c.args.first.now c.args.second.now c.args.lefts.now c.args.rights.now c.requires.look_up c.rights.at no_tuple c.rights-test.true v
+                  (key ∙ value_of_map meant c.args.second.now c.args.rights.now c.rights.at no_tuple c.rights-test.true) (table_at c.in_ok-table.table v) there,
               (
-                looked_below meant c.args.first.now c.args.second.now c.args.lefts.now c.args.rights.now c.requires.look_up c.rights.at no_tuple c.rights-test.true v
+                places_try meant c.args.work.now.kind c.args.first.now c.args.second.now c.args.lefts.now c.args.rights.now c.requires.join c.requires.look_up c.args.work.now.known c.requires.known c.rights.at no_tuple c.rights-test.true v
                     (key ∙ value_of_map meant c.args.second.now c.args.rights.now c.rights.at no_tuple c.rights-test.true) (table_at c.in_ok-table.table v) there,
                 c.rights.invariant.long,
               ),
