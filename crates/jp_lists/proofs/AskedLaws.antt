@@ -12,8 +12,9 @@ use Rattle.jp_query.specs.declared.Expr.TheViews.{roll-Expr, roll-out-Expr}
 use Rattle.jp_query.specs.declared.Expr.TheFolds.{para-roll-Expr}
 use Rattle.jp_query.specs.Fitting.{IsLent, IsRowOfTypes, InQuery, own_ins}
 use Rattle.jp_query.specs.Layers.{ExprLayer}
-use Rattle.jp_query.specs.Meaning.{Row, value_given}
+use Rattle.jp_query.specs.Meaning.{Row, Env, holds, value_given}
 use Rattle.jp_query.specs.Outermost.{Outers, expr_outers, outermost}
+use Rattle.jp_eval.specs.Evaluation.{CanEvaluate}
 use Rattle.jp_problem.specs.declared.types.Class.{Class}
 use Rattle.jp_problem.specs.declared.types.Method.{Method}
 use Rattle.jp_problem.specs.declared.types.Stage.{Stage}
@@ -30,7 +31,7 @@ use Rattle.jp_joins.specs.Conditions.{CanEvaluateAt, sides, CanTest, CanJoin, Ca
 use Rattle.jp_joins.specs.Meant.{Meant, value_at, list_holds}
 use Rattle.jp_joins.specs.Sorting.{key_before}
 use Rattle.jp_laws.specs.SameCells.{IsSameCell, IsSamePresence}
-use Rattle.jp_lists.specs.Asked.{HasOwnSublinks, exprs_of_step, AsksAlike, AreMeantAlike}
+use Rattle.jp_lists.specs.Asked.{HasRowsAlike, HasOwnSublinks, exprs_of_step, AreMeantAlike}
 use Rattle.jp_lists.specs.Seen.{HasSameRows}
 use Rattle.jp_lists.specs.Steps.{filters_of, pair_of_sides, method_list}
 use Rattle.jp_lists.proofs.Arounds.{each_from, from_each}
@@ -40,6 +41,40 @@ use Rattle.jp_lists.proofs.MeantLists.{OrderAlike, method_same}
 use Rattle.jp_lists.proofs.StageLaws.{IsPair, OfParts, class_made, parts_of, stage_made, list_made, filters_made, key_ok}
 use Rattle.jp_tree.specs.BlockParts.{own_columns, own_placeholders, exprs_in, outermost_ins, sublinks_of}
 use Rattle.jp_tree.specs.declared.prepared.Block.{Block}
+
+-- ---- an expression with the same rows for its sublinks
+
+module _ (rows others : ℕ → List Row) where
+  given_same : (e : Expr) (env : Env) → Each (HasSameRows rows others) (outermost e) → value_given rows e env ≡ value_given others e env
+  given_same e env h = value_by_sight rows others env env e (record {
+    cells = each_anyway (IsSameCell env env) (λ c. refl) (own_columns e);
+    presence = each_anyway (IsSamePresence env env) (λ rels i low k. refl) (own_placeholders e);
+    lists = h;
+  })
+
+  abbrev Same : InQuery → Type 0
+  Same q = rows q.number ≡ others q.number
+
+  given_evaluated : (e : Expr) (env : Env) → Each (HasSameRows rows others) (outermost e) → CanEvaluate others e env → CanEvaluate rows e env
+  given_evaluated e env h can = record {
+    schema = can.schema;
+    scope = can.scope;
+    typed = can.typed;
+    columns = can.columns;
+    bounded = can.bounded;
+    fits = record {
+      cells = can.fits.cells;
+      lent = all_of_each (IsLent rows) (own_ins e) (each_both (IsLent others) Same (IsLent rows) (λ q lent same. subst (All (IsRowOfTypes q.outputs)) (sym same) lent) (own_ins e)
+          (each_of (IsLent others) (own_ins e) can.fits.lent)
+          (own_ins_have Same e (each_from (λ o. Same (as_in o)) (outermost_ins e) (λ o r. from_each (HasSameRows rows others) o (outermost e) h (from_each (λ o. In o (outermost e)) o (outermost_ins e) (ins_are_outermost e) r)))));
+    };
+  }
+
+  pub asked_conditions : (conds : List Expr) (env : Env) → All (HasRowsAlike rows others) conds → holds (map (value_given rows) conds) env ≡ holds (map (value_given others) conds) env
+  asked_conditions conds env h = holds_same (value_given rows) (value_given others) env env conds (each_weaker (HasRowsAlike rows others) (λ e. value_given rows e env ≡ value_given others e env) (λ e k. given_same e env (each_of (HasSameRows rows others) (outermost e) k)) conds (each_of (HasRowsAlike rows others) conds h))
+
+  pub asked_evaluated : (e : Expr) (env : Env) → HasRowsAlike rows others e → CanEvaluate others e env → CanEvaluate rows e env
+  asked_evaluated e env h can = given_evaluated e env (each_of (HasSameRows rows others) (outermost e) h) can
 
 -- ---- two meanings of a step
 
@@ -56,13 +91,7 @@ module _ (meant : Meant) (rows : Map → ℕ → List Row) where
   Asks e = (m : Map) → Each (HasSameRows (rows m) (meant.sublink_rows m)) (outermost e)
 
   value_same : (e : Expr) → Asks e → (m : Map) → value_at other m e ≡ value_at meant m e
-  value_same e h m =
-      let env = meant.environment m in
-      value_by_sight (rows m) (meant.sublink_rows m) env env e (record {
-        cells = each_anyway (IsSameCell env env) (λ c. refl) (own_columns e);
-        presence = each_anyway (IsSamePresence env env) (λ rels i low k. refl) (own_placeholders e);
-        lists = h m;
-      })
+  value_same e h m = given_same (rows m) (meant.sublink_rows m) e (meant.environment m) (h m)
 
   tests_same : (conds : List Expr) → Each Asks conds → list_holds other conds ≡ list_holds meant conds
   unfolding list_holds
@@ -73,22 +102,7 @@ module _ (meant : Meant) (rows : Map → ℕ → List Row) where
   orders_alike (Some key) h = (λ i a b. key_before (value_same key.0 h.0 a i) (value_same key.0 h.0 b i), λ i a b. key_before (value_same key.1 h.1.0 a i) (value_same key.1 h.1.0 b i))
 
   evaluated : (e : Expr) → Asks e → (m : Map) → CanEvaluateAt meant m e → CanEvaluateAt other m e
-  evaluated e h m can = record {
-    schema = can.schema;
-    scope = can.scope;
-    typed = can.typed;
-    columns = can.columns;
-    bounded = can.bounded;
-    fits = record {
-      cells = can.fits.cells;
-      lent = all_of_each (IsLent (rows m)) (own_ins e) (each_both (IsLent (meant.sublink_rows m)) Same (IsLent (rows m)) (λ q lent same. subst (All (IsRowOfTypes q.outputs)) (sym same) lent) (own_ins e)
-          (each_of (IsLent (meant.sublink_rows m)) (own_ins e) can.fits.lent)
-          (own_ins_have Same e (each_from (λ o. Same (as_in o)) (outermost_ins e) (λ o r. from_each (HasSameRows (rows m) (meant.sublink_rows m)) o (outermost e) (h m) (from_each (λ o. In o (outermost e)) o (outermost_ins e) (ins_are_outermost e) r)))));
-    };
-  }
-    where
-      Same : InQuery → Type 0
-      Same q = rows m q.number ≡ meant.sublink_rows m q.number
+  evaluated e h m can = given_evaluated (rows m) (meant.sublink_rows m) e (meant.environment m) (h m) can
 
   module _ (asks : Each Asks (exprs_of_step meant)) where
     of_key : Each Asks (sides meant.key)
@@ -155,7 +169,7 @@ module _ (one two : Meant) (alike : AreMeantAlike one two) where
 
   asked : Each (Asks two one.sublink_rows) (exprs_of_step two)
   asked = swapped (λ m e. Each (HasSameRows (one.sublink_rows m) (two.sublink_rows m)) (outermost e)) (exprs_of_step two)
-      (λ m. each_weaker (AsksAlike one two m) (λ e. Each (HasSameRows (one.sublink_rows m) (two.sublink_rows m)) (outermost e)) (λ e h. each_of (HasSameRows (one.sublink_rows m) (two.sublink_rows m)) (outermost e) h) (exprs_of_step two) (each_of (AsksAlike one two m) (exprs_of_step two) (alike.rows m)))
+      (λ m. each_weaker (HasRowsAlike (one.sublink_rows m) (two.sublink_rows m)) (λ e. Each (HasSameRows (one.sublink_rows m) (two.sublink_rows m)) (outermost e)) (λ e h. each_of (HasSameRows (one.sublink_rows m) (two.sublink_rows m)) (outermost e) h) (exprs_of_step two) (each_of (HasRowsAlike (one.sublink_rows m) (two.sublink_rows m)) (exprs_of_step two) (alike.rows m)))
 
   pub step_lists : (how : Method) (left right : List Map) → method_list how one left right ≡ method_list how two left right
   step_lists how left right = subst (λ x. method_list how x left right ≡ method_list how two left right) is_other (lists_same two one.sublink_rows asked how left right)

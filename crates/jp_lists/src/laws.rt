@@ -1,6 +1,7 @@
 ghost use Rattle.std.specs.Prelude.{◌≡◌, ℕ, List, All, Contains, IsSome, map, length};
+ghost use Rattle.jp_eval.specs.Evaluation.{CanEvaluate};
 ghost use Rattle.jp_frame.specs.Maps.{Map};
-ghost use Rattle.jp_lists.specs.Asked.{AreMeantAlike, HasOwnSublinks, exprs_of_step};
+ghost use Rattle.jp_lists.specs.Asked.{AreMeantAlike, HasRowsAlike, HasOwnSublinks, exprs_of_step};
 ghost use Rattle.jp_lists.specs.Lists.{list_of, listing, sublink_rows, around_block, run_in, listed_block};
 ghost use Rattle.jp_joins.specs.Conditions.{CanJoin, CanLookUp};
 ghost use Rattle.jp_joins.specs.Meant.{Meant};
@@ -14,7 +15,7 @@ ghost use Rattle.jp_problem.specs.declared.types.Method.{Method};
 ghost use Rattle.jp_problem.specs.declared.types.Problem.{Problem};
 ghost use Rattle.jp_problem.specs.declared.types.Step.{Step};
 ghost use Rattle.jp_query.specs.declared.Expr.{Expr};
-ghost use Rattle.jp_query.specs.Meaning.{Row, Env, value_given, with_rows};
+ghost use Rattle.jp_query.specs.Meaning.{Row, Env, holds, value_given, with_rows};
 ghost use Rattle.jp_query.specs.Outermost.{outermost};
 ghost use Rattle.jp_query.specs.Scopes.{Scope};
 ghost use Rattle.jp_query.specs.Tables.{TableRows, IsRowOf, Belong, rows_of_tables};
@@ -32,7 +33,7 @@ pub fn a_value_with_given_rows_depends_on_its_own_columns()
 {}
 
 /// A law: what a block lists depends on the environment around it by the cells of its outer references and by which
-/// relations of placeholders have a row, alone.
+/// relations of placeholders, but for those of its own items, have a row. A block that sees nothing lists the same anywhere.
 pub fn a_list_depends_on_what_its_block_sees()
     ensures rows { (prepared : Prepared) (tables : ℕ → List Row) (number : ℕ) (env : Env) (other : Env) →
         IsWhole prepared → AreSeenAlike prepared number env other → list_of prepared tables number env ≡ list_of prepared tables number other }
@@ -84,6 +85,14 @@ pub fn steps_of_a_plan_can_be_run()
         CanLookUp (meant_of (run_in prepared (rows_of_tables tables) block env) block.problem (set_of left) (set_of right) kind)
         (tree_list (run_in prepared (rows_of_tables tables) block env) block.problem left) (tree_list (run_in prepared (rows_of_tables tables) block env) block.problem right) }
     ensures width { (run : Run) (problem : Problem) (tree : Tree) → All (HasPlaces (length problem.items)) (tree_list run problem tree) }
+{}
+
+/// A law: an expression asks for the rows of its own sublinks alone. With the same rows of these a list of conditions holds
+/// where it did, and an expression can be evaluated where it could be.
+pub fn an_expression_asks_for_the_rows_of_its_sublinks_alone()
+    ensures conditions { (rows : ℕ → List Row) (others : ℕ → List Row) (conds : List Expr) (env : Env) → All (HasRowsAlike rows others) conds →
+        holds (map (value_given rows) conds) env ≡ holds (map (value_given others) conds) env }
+    ensures evaluated { (rows : ℕ → List Row) (others : ℕ → List Row) (expr : Expr) (env : Env) → HasRowsAlike rows others expr → CanEvaluate others expr env → CanEvaluate rows expr env }
 {}
 
 /// A law: a step asks for the rows of the sublinks in its key, in what a match makes true and in its filters alone. With the
