@@ -17,7 +17,7 @@ use Rattle.jp_frame.specs.Maps.{Map, at}
 use Rattle.jp_framed.specs.Environments.{source_at, row_at, env_from}
 use Rattle.jp_framed.proofs.MapRows.{overlaid, left_alone}
 use Rattle.jp_induction.proofs.EachPart.{Each, each_append}
-use Rattle.jp_laws.specs.SameCells.{IsSameCell, IsSamePresence, AreTwins}
+use Rattle.jp_laws.specs.SameCells.{IsSameCell, AreTwins}
 use Rattle.jp_lists.specs.Lists.{only_rows, around_block}
 use Rattle.jp_tree.specs.BlockParts.{HasRelation}
 use Rattle.jp_tree.specs.declared.prepared.Block.{Block}
@@ -103,10 +103,16 @@ module _ (block : Block) (env other : Env) where
     | inr n ↦ ap (λ row. cell_in row c.column) (stays (own_rels block) env c.relation n) ∙ h (λ r. n (relation_own block c.relation r)) ∙ sym (ap (λ row. cell_in row c.column) (stays (own_rels block) other c.relation n))
   ]
 
-  pub around_presence : (rels : ℕ) → IsSamePresence env other rels → IsSamePresence around around' rels
-  around_presence rels h i low m = elim (cases_eq (bit_at (own_rels block) i) 1) [
-    | inl p ↦ ap is_some (gone (own_rels block) env i p ∙ sym (gone (own_rels block) other i p))
-    | inr n ↦ ap is_some (stays (own_rels block) env i n) ∙ h i low m ∙ sym (ap is_some (stays (own_rels block) other i n))
+  pub around_presence : (rel : ℕ) → (¬ HasRelation block rel → is_some (env rel) ≡ is_some (other rel)) → is_some (around rel) ≡ is_some (around' rel)
+  around_presence rel h = elim (cases_eq (bit_at (own_rels block) rel) 1) [
+    | inl p ↦ ap is_some (gone (own_rels block) env rel p ∙ sym (gone (own_rels block) other rel p))
+    | inr n ↦ ap is_some (stays (own_rels block) env rel n) ∙ h (λ r. n (relation_own block rel r)) ∙ sym (ap is_some (stays (own_rels block) other rel n))
+  ]
+
+  pub twin_row : (n : ℕ) (x y : Env) → AreTwins n around around' x y → (rel : ℕ) → is_some (around rel) ≡ is_some (around' rel) → is_some (x rel) ≡ is_some (y rel)
+  twin_row n x y t rel h = elim (cases_eq (bit_at n rel) 1) [
+    | inl p ↦ ap is_some (t.own rel p)
+    | inr d ↦ ap is_some (t.others rel d).0 ∙ h ∙ sym (ap is_some (t.others rel d).1)
   ]
 
   -- twins around the block are the same where they are seen at relations of its own

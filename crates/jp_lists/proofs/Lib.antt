@@ -1,4 +1,5 @@
 pub mod Arounds
+pub mod AskedLaws
 pub mod BlocksAlike
 pub mod CellFacts
 pub mod ClassTypes
@@ -8,6 +9,7 @@ pub mod GivenCells
 pub mod InParts
 pub mod KeyFacts
 pub mod MapFacts
+pub mod MeantLists
 pub mod SeenLaws
 pub mod SpecialKinds
 pub mod StageLaws

@@ -1,6 +1,7 @@
 -- What a block lists depends on what it sees of the environment around it alone.
 use Rattle.std.proofs.Common.{◌≡◌, ◌∙◌, ap, sym, subst, refl, ℕ, zero, suc, ◌-◌, ◌<◌, List, [], ◌∷◌, length, Option, Some, None, arith}
-use Rattle.std.specs.Prelude.{slice_get, slice_index_or}
+use Rattle.std.specs.Prelude.{slice_get, slice_index_or, is_some}
+use Rattle.jp_base.specs.Sets.{Has}
 use Rattle.jp_facts.proofs.Members.{In, from_in, in_flat_map}
 use Rattle.jp_query.specs.declared.Expr.{Expr}
 use Rattle.jp_query.specs.Meaning.{Row, Env}
@@ -9,10 +10,10 @@ use Rattle.jp_query.specs.Parts.{ColumnRef}
 use Rattle.jp_induction.specs.Alike.{Alike, none}
 use Rattle.jp_induction.proofs.Alike.{alike_weaker}
 use Rattle.jp_laws.specs.SameCells.{IsSameCell, IsSamePresence, AreTwins}
-use Rattle.jp_laws.proofs.TwinLaws.{twins_kept, twin_cell, twin_presence}
+use Rattle.jp_laws.proofs.TwinLaws.{twins_kept, twin_cell}
 use Rattle.jp_lists.specs.Lists.{Listed, sublink_rows, rels_of_some, rels_of_block, around_block, listed_block, nothing_listed, listed_from, listing, list_of}
-use Rattle.jp_lists.specs.Seen.{IsPlaceholderOf, named, passed_on, AreSeenAlike, HasSameRows}
-use Rattle.jp_lists.proofs.Arounds.{each_from, in_range, from_behind, own_rels, stays, around_cell, around_presence, seen_same, maps_twins}
+use Rattle.jp_lists.specs.Seen.{IsOuterPresence, named, passed_on, AreSeenAlike, HasSameRows}
+use Rattle.jp_lists.proofs.Arounds.{each_from, in_range, from_behind, own_rels, stays, around_cell, around_presence, twin_row, seen_same, maps_twins}
 use Rattle.jp_lists.proofs.BlocksAlike.{Alikeness, block_rows, block_tuples}
 use Rattle.jp_lists.proofs.GivenCells.{Sees}
 use Rattle.jp_lists.proofs.Sublinks.{sublink_place}
@@ -59,8 +60,11 @@ module _ (prepared : Prepared) (whole : IsWhole prepared) (tables : ℕ → List
     passed_cell : (n : ℕ) → Uses prepared block n → (c : ColumnRef) → IsOuterReference prepared n c → IsSameCell around around' c
     passed_cell n uses c h = around_cell block env other c (λ out. s.cells c (parts.passed_on block n there uses h out))
 
-    passed_presence : (n : ℕ) → Uses prepared block n → (rels : ℕ) → IsPlaceholderOf prepared n rels → IsSamePresence around around' rels
-    passed_presence n uses rels h = around_presence block env other rels (s.presence rels (passed_on block n there uses h))
+    passed_presence : (n : ℕ) → Uses prepared block n → (rel : ℕ) → rel < 64 → IsOuterPresence prepared n rel → is_some (around rel) ≡ is_some (around' rel)
+    passed_presence n uses rel low h = around_presence block env other rel (λ out. s.presence rel low (passed_on block n there uses h out))
+
+    named_presence : (rels : ℕ) → In rels (placeholders_named block) → (rel : ℕ) → rel < 64 → Has rels rel → is_some (around rel) ≡ is_some (around' rel)
+    named_presence rels m rel low h = around_presence block env other rel (λ out. s.presence rel low (named block rels there (from_in rels (placeholders_named block) m) h out))
 
     item_alike : (n : ℕ) → In n (item_blocks block) → AreListedAlike n around around'
     item_alike n h =
@@ -75,16 +79,15 @@ module _ (prepared : Prepared) (whole : IsWhole prepared) (tables : ℕ → List
         let uses : Uses prepared block one.place = by_sublink sublink used one.is in
         let alike = behind one.place one.behind (in_range prepared.blocks one.place one.is.block one.is.there) x y (record {
           cells = λ c r. twin_cell around around' k x y t c (passed_cell one.place uses c r);
-          presence = λ rels r. twin_presence around around' k x y t rels (passed_presence one.place uses rels r);
+          presence = λ rel low r. twin_row block env other k x y t rel (passed_presence one.place uses rel low r);
         }) in
         subst (λ n. (listing prepared tables n x).rows ≡ (listing prepared tables n y).rows) (sym (sublink_place prepared number sublink.number one)) alike.rows
 
     sight : (k : ℕ) (x y : Env) → AreTwins k around around' x y → (e : Expr) → In e (exprs_in block) → Sees (sublink_rows prepared.blocks (listing prepared tables) x) (sublink_rows prepared.blocks (listing prepared tables) y) x y e
-    sight k x y t e h = record {
-      cells = each_from (IsSameCell x y) (own_columns e) (λ c r. twin_cell around around' k x y t c (named_cell c (in_flat_map own_columns e c (exprs_in block) h r)));
-      presence = each_from (IsSamePresence x y) (own_placeholders e) (λ rels r. twin_presence around around' k x y t rels
-          (around_presence block env other rels (s.presence rels (named block there (from_in rels (placeholders_named block) (in_flat_map own_placeholders e rels (exprs_in block) h r))))));
-      lists = each_from (HasSameRows (sublink_rows prepared.blocks (listing prepared tables) x) (sublink_rows prepared.blocks (listing prepared tables) y)) (outermost e) (λ sublink r. sublink_alike k x y t sublink (in_flat_map outermost e sublink (exprs_in block) h r));
+    sight k x y t e m = record {
+      cells = each_from (IsSameCell x y) (own_columns e) (λ c r. twin_cell around around' k x y t c (named_cell c (in_flat_map own_columns e c (exprs_in block) m r)));
+      presence = each_from (IsSamePresence x y) (own_placeholders e) (λ rels r rel low h. twin_row block env other k x y t rel (named_presence rels (in_flat_map own_placeholders e rels (exprs_in block) m r) rel low h));
+      lists = each_from (HasSameRows (sublink_rows prepared.blocks (listing prepared tables) x) (sublink_rows prepared.blocks (listing prepared tables) y)) (outermost e) (λ sublink r. sublink_alike k x y t sublink (in_flat_map outermost e sublink (exprs_in block) m r));
     }
 
     alikeness : Alikeness prepared.blocks tables (listing prepared tables) (listing prepared tables) env other block (λ n. AreTwins n around around')

@@ -1,7 +1,6 @@
 -- Two runs of a block whose items have the same rows, and in which its expressions have the same values at each map, list the
 -- same maps.
 use Rattle.std.proofs.Common.{◌≡◌, ◌∙◌, sym, refl, ℕ, List, filter, length, Option, Some, None}
-use Rattle.std.specs.List.{flat_map}
 use Rattle.std.specs.Option.{option_map}
 use mathlib.Core.Path.{fun_ext}
 use Rattle.jp_base.specs.declared.values.Value.{Value}
@@ -9,7 +8,6 @@ use Rattle.jp_query.specs.declared.Expr.{Expr}
 use Rattle.jp_query.specs.Meaning.{value_given}
 use Rattle.jp_problem.specs.declared.types.Class.{Class}
 use Rattle.jp_problem.specs.declared.types.Method.{Method}
-use Rattle.jp_problem.specs.declared.types.Method.TheVariants as method
 use Rattle.jp_problem.specs.declared.types.Problem.{Problem}
 use Rattle.jp_problem.specs.declared.types.Stage.{Stage}
 use Rattle.jp_problem.specs.declared.types.Step.{Step}
@@ -19,13 +17,14 @@ use Rattle.jp_problem.specs.Made.{exprs_of, class_exprs}
 use Rattle.jp_problem.specs.StepClauses.{of_class, scan_stage, scan_clauses}
 use Rattle.jp_problem.specs.Trees.{Tree, set_of}
 use Rattle.jp_frame.specs.Maps.{Map}
-use Rattle.jp_frame.specs.Methods.{rows_of_item, right_first, sorted_by}
+use Rattle.jp_frame.specs.Methods.{rows_of_item}
 use Rattle.jp_framed.specs.Environments.{source_at}
 use Rattle.jp_induction.proofs.Between.{holds_same}
 use Rattle.jp_induction.proofs.EachPart.{Each, each_weaker}
-use Rattle.jp_joins.specs.Meant.{Meant, list_holds, is_match, kept, left_gives, plain_list, right_list}
-use Rattle.jp_joins.specs.Sorting.{key_before, stands_before, merged_by}
+use Rattle.jp_joins.specs.Meant.{Meant, list_holds, is_match}
+use Rattle.jp_joins.specs.Sorting.{key_before, stands_before}
 use Rattle.jp_lists.specs.Steps.{Run, run_holds, scan_list, pair_of_sides, meant_of, method_list, tree_list}
+use Rattle.jp_lists.proofs.MeantLists.{OrderAlike, method_same}
 use Rattle.jp_lists.proofs.StageLaws.{IsPair, OfParts, class_made, parts_of, stage_made, list_made, filters_made, key_ok}
 
 -- ---- the same values
@@ -71,25 +70,15 @@ module _ (run other : Run) where
       filters_same : list_holds one one.filters ≡ list_holds two two.filters
       filters_same = lists_same one.filters (filters_made Ok problem parts.joins parts.clauses classes left right kind)
 
-      plain_same : (l l' r r' : List Map) → l ≡ l' → r ≡ r' → plain_list one l r ≡ plain_list two l' r'
-      plain_same l l' r r' p q = λ i. kept one.kind (filters_same i) (flat_map (left_gives one.kind (on_same i) (q i)) (p i))
-
-      right_same : (l l' r r' : List Map) → l ≡ l' → r ≡ r' → right_list one l r ≡ right_list two l' r'
-      right_same l l' r r' p q = λ i. filter (filters_same i) (right_first (on_same i) (p i) (q i))
-
       before_same : (side : Expr) → Ok side → stands_before one side ≡ stands_before two side
       before_same side h = λ i a b. key_before (same side h a i) (same side h b i)
 
-      merged_same : (key : Option Sides) → IsPair Ok key → (l l' r r' : List Map) → l ≡ l' → r ≡ r' → merged_by one (option_map pair_of_sides key) l r ≡ merged_by two (option_map pair_of_sides key) l' r'
-      merged_same None h l l' r r' p q = plain_same l l' r r' p q
-      merged_same (Some s) h l l' r r' p q = plain_same (sorted_by (stands_before one s.first) l) (sorted_by (stands_before two s.first) l') (sorted_by (stands_before one s.second) r) (sorted_by (stands_before two s.second) r')
-          (λ i. sorted_by (before_same s.first h.0 i) (p i)) (λ i. sorted_by (before_same s.second h.1 i) (q i))
+      orders_alike : (key : Option Sides) → IsPair Ok key → OrderAlike one two (option_map pair_of_sides key)
+      orders_alike None h = tt
+      orders_alike (Some s) h = (before_same s.first h.0, before_same s.second h.1)
 
-      method_same : (how : Method) (l l' r r' : List Map) → l ≡ l' → r ≡ r' → method_list how one l r ≡ method_list how two l' r'
-      method_same method.Nest l l' r r' p q = plain_same l l' r r' p q
-      method_same method.Hash l l' r r' p q = plain_same l l' r r' p q
-      method_same method.HashRight l l' r r' p q = right_same l l' r r' p q
-      method_same method.Merge l l' r r' p q = merged_same (key_of problem left right kind) (key_ok Ok Ok down problem left right kind (list_made Ok problem parts.joins parts.clauses classes left right kind)) l l' r r' p q
+      step_same : (how : Method) (l l' r r' : List Map) → l ≡ l' → r ≡ r' → method_list how one l r ≡ method_list how two l' r'
+      step_same = method_same one two refl on_same filters_same refl (orders_alike (key_of problem left right kind) (key_ok Ok Ok down problem left right kind (list_made Ok problem parts.joins parts.clauses classes left right kind)))
 
     scan_same : (i : ℕ) → scan_list run problem i ≡ scan_list other problem i
     scan_same i = λ p. filter (tests_same (scan_clauses problem i) (each_weaker Ok IsSameAt same (scan_clauses problem i) (stage_made Ok problem parts.joins parts.clauses classes (scan_stage i))) p) (rows_of_item (length problem.items) i 0 (length (source_at (sources p) i)))
@@ -97,4 +86,4 @@ module _ (run other : Run) where
     pub trees_same : (t : Tree) → tree_list run problem t ≡ tree_list other problem t
     unfolding tree_list
     trees_same (Tree.Scan i) = scan_same i
-    trees_same (Tree.Join how kind left right) = method_same (set_of left) (set_of right) kind how (tree_list run problem left) (tree_list other problem left) (tree_list run problem right) (tree_list other problem right) (trees_same left) (trees_same right)
+    trees_same (Tree.Join how kind left right) = step_same (set_of left) (set_of right) kind how (tree_list run problem left) (tree_list other problem left) (tree_list run problem right) (tree_list other problem right) (trees_same left) (trees_same right)

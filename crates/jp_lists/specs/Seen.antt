@@ -1,5 +1,6 @@
 -- What a block sees of the environment around it.
-use Rattle.std.specs.Prelude.{◌≡◌, ◌⊎◌, ℕ, List, length, Contains}
+use Rattle.std.specs.Prelude.{◌≡◌, ◌⊎◌, ℕ, ◌<◌, List, length, is_some, Contains}
+use Rattle.jp_base.specs.Sets.{Has}
 use Rattle.jp_eval.specs.Evaluation.{CanEvaluate}
 use Rattle.jp_query.specs.declared.Expr.{Expr}
 use Rattle.jp_query.specs.Meaning.{Row, Env}
@@ -8,22 +9,26 @@ use Rattle.jp_query.specs.Typing.{IsBoolean}
 use Rattle.jp_frame.specs.Maps.{Map}
 use Rattle.jp_lists.specs.Steps.{Run}
 use Rattle.jp_query.specs.Parts.{ColumnRef}
-use Rattle.jp_laws.specs.SameCells.{IsSameCell, IsSamePresence}
+use Rattle.jp_laws.specs.SameCells.{IsSameCell}
 use Rattle.jp_query.specs.Fitting.{IsCellAt, IsRowFor}
 use Rattle.jp_query.specs.Scopes.{Scope, visible_columns}
 use Rattle.jp_tree.specs.declared.prepared.Block.{Block}
 use Rattle.jp_tree.specs.declared.prepared.Prepared.{Prepared}
-use Rattle.jp_tree.specs.BlockParts.{placeholders_named, IsBlockAt, Uses, IsOuterReference}
+use Rattle.jp_tree.specs.BlockParts.{placeholders_named, HasRelation, IsBlockAt, Uses, IsOuterReference}
 
--- the relations of a placeholder in the expressions of a block, or in those of a block that it uses
-pub data IsPlaceholderOf (prepared : Prepared) : ℕ → ℕ → Type 0 where
-  named : {number rels : ℕ} (block : Block) → IsBlockAt prepared number block → Contains (placeholders_named block) rels → IsPlaceholderOf prepared number rels
-  passed_on : {number rels : ℕ} (block : Block) (inner : ℕ) → IsBlockAt prepared number block → Uses prepared block inner → IsPlaceholderOf prepared inner rels → IsPlaceholderOf prepared number rels
+-- A relation whose presence a block asks for: one of a placeholder in its expressions, or one that a block that it uses asks
+-- for, which belongs to none of its items.
+pub data IsOuterPresence (prepared : Prepared) : ℕ → ℕ → Type 0 where
+  named : {number rel : ℕ} (block : Block) (rels : ℕ) → IsBlockAt prepared number block → Contains (placeholders_named block) rels → Has rels rel
+      → ¬ HasRelation block rel → IsOuterPresence prepared number rel
+  passed_on : {number rel : ℕ} (block : Block) (inner : ℕ) → IsBlockAt prepared number block → Uses prepared block inner → IsOuterPresence prepared inner rel
+      → ¬ HasRelation block rel → IsOuterPresence prepared number rel
 
--- a block sees the same cells in both environments, and the same relations of placeholders
+-- A block sees the same cells of its outer references in both environments, and the same of these relations have a row. Only
+-- relations below 64 are asked for.
 pub record AreSeenAlike (prepared : Prepared) (number : ℕ) (env other : Env) : Type 0 where
   pub cells : (c : ColumnRef) → IsOuterReference prepared number c → IsSameCell env other c
-  pub presence : (rels : ℕ) → IsPlaceholderOf prepared number rels → IsSamePresence env other rels
+  pub presence : (rel : ℕ) → rel < 64 → IsOuterPresence prepared number rel → is_some (env rel) ≡ is_some (other rel)
 
 -- the cell of each outer reference of a block is NULL or of its type and within its bound
 abbrev pub FitsOutside : Prepared → Scope → ℕ → Env → Type 0

@@ -1,10 +1,13 @@
 ghost use Rattle.std.specs.Prelude.{◌≡◌, ℕ, List, All, Contains, IsSome, map, length};
+ghost use Rattle.jp_eval.specs.Evaluation.{CanEvaluate};
 ghost use Rattle.jp_frame.specs.Maps.{Map};
+ghost use Rattle.jp_lists.specs.Asked.{AreMeantAlike, HasRowsAlike, HasOwnSublinks, exprs_of_step};
 ghost use Rattle.jp_lists.specs.Lists.{list_of, listing, sublink_rows, around_block, run_in, listed_block};
 ghost use Rattle.jp_joins.specs.Conditions.{CanJoin, CanLookUp};
+ghost use Rattle.jp_joins.specs.Meant.{Meant};
 ghost use Rattle.jp_laws.specs.SameCells.{IsSameCell, IsSamePresence};
 ghost use Rattle.jp_lists.specs.Seen.{AreSeenAlike, FitsOutside, IsInside, IsEvaluated, IsTested, HasPlaces, HasSameRows};
-ghost use Rattle.jp_lists.specs.Steps.{Run, meant_of, tree_list};
+ghost use Rattle.jp_lists.specs.Steps.{Run, meant_of, method_list, tree_list};
 ghost use Rattle.jp_problem.specs.Keys.{key_of};
 ghost use Rattle.jp_problem.specs.StepClauses.{scan_clauses};
 ghost use Rattle.jp_problem.specs.Trees.{Tree, IsLegalTree, set_of};
@@ -12,7 +15,7 @@ ghost use Rattle.jp_problem.specs.declared.types.Method.{Method};
 ghost use Rattle.jp_problem.specs.declared.types.Problem.{Problem};
 ghost use Rattle.jp_problem.specs.declared.types.Step.{Step};
 ghost use Rattle.jp_query.specs.declared.Expr.{Expr};
-ghost use Rattle.jp_query.specs.Meaning.{Row, Env, value_given, with_rows};
+ghost use Rattle.jp_query.specs.Meaning.{Row, Env, holds, value_given, with_rows};
 ghost use Rattle.jp_query.specs.Outermost.{outermost};
 ghost use Rattle.jp_query.specs.Scopes.{Scope};
 ghost use Rattle.jp_query.specs.Tables.{TableRows, IsRowOf, Belong, rows_of_tables};
@@ -30,7 +33,7 @@ pub fn a_value_with_given_rows_depends_on_its_own_columns()
 {}
 
 /// A law: what a block lists depends on the environment around it by the cells of its outer references and by which
-/// relations of placeholders have a row, alone.
+/// relations of placeholders, but for those of its own items, have a row. A block that sees nothing lists the same anywhere.
 pub fn a_list_depends_on_what_its_block_sees()
     ensures rows { (prepared : Prepared) (tables : ℕ → List Row) (number : ℕ) (env : Env) (other : Env) →
         IsWhole prepared → AreSeenAlike prepared number env other → list_of prepared tables number env ≡ list_of prepared tables number other }
@@ -82,6 +85,28 @@ pub fn steps_of_a_plan_can_be_run()
         CanLookUp (meant_of (run_in prepared (rows_of_tables tables) block env) block.problem (set_of left) (set_of right) kind)
         (tree_list (run_in prepared (rows_of_tables tables) block env) block.problem left) (tree_list (run_in prepared (rows_of_tables tables) block env) block.problem right) }
     ensures width { (run : Run) (problem : Problem) (tree : Tree) → All (HasPlaces (length problem.items)) (tree_list run problem tree) }
+{}
+
+/// A law: an expression asks for the rows of its own sublinks alone. With the same rows of these a list of conditions holds
+/// where it did, and an expression can be evaluated where it could be.
+pub fn an_expression_asks_for_the_rows_of_its_sublinks_alone()
+    ensures conditions { (rows : ℕ → List Row) (others : ℕ → List Row) (conds : List Expr) (env : Env) → All (HasRowsAlike rows others) conds →
+        holds (map (value_given rows) conds) env ≡ holds (map (value_given others) conds) env }
+    ensures evaluated { (rows : ℕ → List Row) (others : ℕ → List Row) (expr : Expr) (env : Env) → HasRowsAlike rows others expr → CanEvaluate others expr env → CanEvaluate rows expr env }
+{}
+
+/// A law: a step asks for the rows of the sublinks in its key, in what a match makes true and in its filters alone. With the
+/// same rows of these it lists the same maps, and can be run and looked up where it could be.
+pub fn a_step_asks_for_the_rows_of_its_sublinks_alone()
+    ensures list { (how : Method) (one : Meant) (two : Meant) (left : List Map) (right : List Map) → AreMeantAlike one two → method_list how one left right ≡ method_list how two left right }
+    ensures join { (kind : Step) (one : Meant) (two : Meant) (left : List Map) (right : List Map) → AreMeantAlike one two → CanJoin two kind left right → CanJoin one kind left right }
+    ensures look_up { (one : Meant) (two : Meant) (left : List Map) (right : List Map) → AreMeantAlike one two → CanLookUp two left right → CanLookUp one left right }
+{}
+
+/// A law: the sublinks in what the scans and steps of a block's plan test, classes and keys included, are the block's.
+pub fn what_a_plan_tests_stands_in_its_block()
+    ensures scan { (block : Block) (i : ℕ) → All (HasOwnSublinks block) (scan_clauses block.problem i) }
+    ensures step { (run : Run) (block : Block) (left : ℕ) (right : ℕ) (kind : Step) → All (HasOwnSublinks block) (exprs_of_step (meant_of run block.problem left right kind)) }
 {}
 
 /// A law: what a block gives is made of what the blocks behind it give.

@@ -7,6 +7,8 @@ mod laws;
 
 pub use laws::{
     a_block_gives_what_its_plan_lists, a_list_depends_on_what_its_block_sees,
-    a_value_with_given_rows_depends_on_its_own_columns, lists_fit, steps_of_a_plan_can_be_run,
-    what_a_block_evaluates_fits,
+    a_step_asks_for_the_rows_of_its_sublinks_alone,
+    a_value_with_given_rows_depends_on_its_own_columns,
+    an_expression_asks_for_the_rows_of_its_sublinks_alone, lists_fit, steps_of_a_plan_can_be_run,
+    what_a_block_evaluates_fits, what_a_plan_tests_stands_in_its_block,
 };
