@@ -1,0 +1,5 @@
+pub mod Numbers
+pub mod Params
+pub mod Rows
+pub mod Seeing
+pub mod Sights
