@@ -1,5 +1,5 @@
 -- Keys of tables stand for values, and a table lists tuples by the values of its keys.
-use Rattle.std.proofs.Common.{◌≡◌, ◌∙◌, ap, ap₂, sym, ◌+◌, ◌<◌, filter, length, get_or, take, subst, refl, ℕ, ◌⊎◌, inl, inr, Bool, true, false, cond, Option, Some, None, List, [], ◌∷◌, ◌++◌, Vec, Global, append-nil}
+use Rattle.std.proofs.Common.{◌≡◌, ◌∙◌, ap, ap₂, sym, ◌+◌, ◌<◌, filter, length, get_or, take, subst, refl, ℕ, ◌⊎◌, inl, inr, Bool, true, false, cond, Option, Some, None, List, [], ◌∷◌, ◌++◌, append-nil}
 use Rattle.std.specs.HashMap as hash
 use Rattle.std.specs.HashMap.{HashMap}
 use Rattle.std.proofs.lemmas.Map.Text.{is_eq-slice_cmp}
@@ -11,13 +11,14 @@ use Rattle.jp_base.specs.Values.{are_equal}
 use Rattle.jp_base.specs.declared.values.Value.{Value}
 use Rattle.jp_base.specs.declared.values.Value.TheVariants as value
 use Rattle.jp_base.proofs.ValueOrder.{equal_is}
-use Rattle.jp_joins.specs.Keys.{has_key, listed, once_if, table_at, tuple_has, value_of_key, value_of_some}
+use Rattle.jp_joins.specs.Keys.{has_key, items_of, listed, once_if, table_at, tuple_has, value_of_key, value_of_some}
 use Rattle.jp_joins.specs.Meant.{Meant, value_at}
 use Rattle.jp_joins.specs.Tuples.{map_of}
 use Rattle.jp_query.specs.declared.Expr.{Expr}
 use Rattle.jp_joins.specs.contracts.keys.KeyPartialEq.TheImpl as key_equal
 use Rattle.jp_joins.specs.declared.keys.Key.{Key}
 use Rattle.jp_joins.specs.declared.keys.Key.TheVariants as key
+use Rattle.jp_joins.specs.declared.listed.Listed.{Listed}
 use Rattle.jp_joins.specs.declared.tuples.Tuple.{Tuple}
 
 abbrev pub same_key : Key → Key → Bool
@@ -62,9 +63,9 @@ has_keys (value.Bool b) = inr (key.Boolean b, refl)
 has_keys (value.Text t) = inr (key.Text (record { ref_ptr = (0, 0); now = t }), refl)
 
 abbrev Table : Type 0 → Type 0 → Type 0
-Table X S = HashMap Key (Vec X Global) S
+Table X S = HashMap Key (Listed X) S
 
-none_listed : {X : Type 0} (es : List (Key × Vec X Global)) → lookup (has_key value.Null) es ≡ None
+none_listed : {X : Type 0} (es : List (Key × Listed X)) → lookup (has_key value.Null) es ≡ None
 none_listed [] = refl
 none_listed (e ∷ es) = ap (λ b. cond b (Some e.1) (lookup (has_key value.Null) es)) (null_equals_none (value_of_key e.0)) ∙ none_listed es
 
@@ -75,21 +76,21 @@ module _ {X S : Type 0} where
   pub at_null : (table : Table X S) → table_at table value.Null ≡ []
   at_null table = ap listed (none_listed table.entries)
 
-  pick : (m : Table X S) (key q : Key) (w : Vec X Global) (t : X) (b : Bool) → w.items ≡ listed (hash.get same_key m key) ++ t ∷ [] → same_key key q ≡ b
+  pick : (m : Table X S) (key q : Key) (w : Listed X) (t : X) (b : Bool) → items_of w ≡ listed (hash.get same_key m key) ++ t ∷ [] → same_key key q ≡ b
       → listed (cond b (Some w) (hash.get same_key m q)) ≡ table_at m (value_of_key q) ++ once_if b t
   pick m key q w t true w_is e =
       let same : value_of_key key ≡ value_of_key q = equal_is (value_of_key key) (value_of_key q) (sym (same_value key q) ∙ e) in
       w_is ∙ ap (λ xs. xs ++ t ∷ []) (ap listed (sym (at_key m key)) ∙ ap (table_at m) same)
   pick m key q w t false w_is e = ap listed (sym (at_key m q)) ∙ sym (append-nil (table_at m (value_of_key q)))
 
-  at_some : (m n : Table X S) (key q : Key) (w : Vec X Global) (t : X) → ((q : Key) → hash.get same_key n q ≡ cond (same_key key q) (Some w) (hash.get same_key m q)) → w.items ≡ listed (hash.get same_key m key) ++ t ∷ []
+  at_some : (m n : Table X S) (key q : Key) (w : Listed X) (t : X) → ((q : Key) → hash.get same_key n q ≡ cond (same_key key q) (Some w) (hash.get same_key m q)) → items_of w ≡ listed (hash.get same_key m key) ++ t ∷ []
       → table_at n (value_of_key q) ≡ table_at m (value_of_key q) ++ once_if (has_key (value_of_key q) key) t
   at_some m n key q w t updates w_is =
       ap listed (at_key n q ∙ updates q) ∙ pick m key q w t (same_key key q) w_is refl
       ∙ ap (λ b. table_at m (value_of_key q) ++ once_if b t) (same_value key q ∙ equal_turned (value_of_key key) (value_of_key q))
 
   -- the table after a tuple is put behind those of a key
-  pub table_more : (m n : Table X S) (key : Key) (w : Vec X Global) (t : X) → ((q : Key) → hash.get same_key n q ≡ cond (same_key key q) (Some w) (hash.get same_key m q)) → w.items ≡ listed (hash.get same_key m key) ++ t ∷ []
+  pub table_more : (m n : Table X S) (key : Key) (w : Listed X) (t : X) → ((q : Key) → hash.get same_key n q ≡ cond (same_key key q) (Some w) (hash.get same_key m q)) → items_of w ≡ listed (hash.get same_key m key) ++ t ∷ []
       → (v : Value) → table_at n v ≡ table_at m v ++ once_if (has_key v key) t
   table_more m n key w t updates w_is v = elim (has_keys v) [
     | inl null ↦ subst (λ u. table_at n u ≡ table_at m u ++ once_if (has_key u key) t) (sym null)
@@ -102,7 +103,7 @@ module _ {X S : Type 0} (table : Table X S) (q : Key) (o : Option Key) (is : o �
   at_same : table_at table (value_of_some o) ≡ listed (hash.get same_key table q)
   at_same = ap (λ (k : Option Key). table_at table (value_of_some k)) is ∙ ap listed (at_key table q)
 
-  pub some_listed : (ts : Vec X Global) → Some ts ≡ hash.get same_key table q → ts.items ≡ table_at table (value_of_some o)
+  pub some_listed : (ts : Listed X) → Some ts ≡ hash.get same_key table q → items_of ts ≡ table_at table (value_of_some o)
   some_listed ts e = ap listed e ∙ sym at_same
 
   pub none_listed_at : None ≡ hash.get same_key table q → [] ≡ table_at table (value_of_some o)

@@ -5,6 +5,7 @@ pub mod KeyFacts
 pub mod KeyPlaceFacts
 pub mod TryFacts
 pub mod LendingFacts
+pub mod ListFacts
 pub mod LookFacts
 pub mod MergeFacts
 pub mod NumberLaws

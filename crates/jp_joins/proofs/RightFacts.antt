@@ -1,5 +1,5 @@
 -- The list of a left join from its right side.
-use Rattle.std.proofs.Common.{◌≡◌, ◌∙◌, ap, ap₂, sym, subst, refl, ℕ, ◌+◌, ◌<◌, inl, inr, Bool, true, false, cond, not, ◌&&◌, ◌||◌, List, [], ◌∷◌, ◌++◌, filter, length, get_or, take, arith, append_assoc, append-nil}
+use Rattle.std.proofs.Common.{◌≡◌, ◌∙◌, ap, ap₂, sym, subst, refl, ℕ, ◌+◌, ◌<◌, inl, inr, Bool, true, false, cond, not, ◌&&◌, ◌||◌, List, [], ◌∷◌, ◌++◌, filter, length, get_or, take, arith, append_assoc}
 use Rattle.std.specs.Prelude.{nat_eq, All, Contains}
 use Rattle.std.specs.List.{list_any, flat_map}
 use Rattle.std.proofs.lemmas.List.{take_more, map-append, get_or-map, length-map}
@@ -34,19 +34,6 @@ module _ (test : Map → Bool) (b : Map) (same : Map → Bool) where
   to_found : (left : List Map) → ((a : Map) → In a left → test (both a b) ≡ true → same a ≡ true) → matches_to test (filter same left) b ≡ matches_to test left b
   to_found [] h = refl
   to_found (a ∷ left) h = pick_to a (filter same left) left (same a) (h a (inl refl)) (to_found left (λ x p. h x (inr p)))
-
--- ---- marks
-
--- no place at all
-pub no_places : (test : Map → Bool) (ms : List Map) (b : Map) (places : List ℕ) (marks : List Bool) → [] ≡ places → Marks test ms b places marks marks
-no_places test ms b places marks is i low = sym (or_none (mark_at marks i)) ∙ ap (λ ks. mark_at marks i || (list_any (nat_eq i) ks && test (both (map_at ms i) b))) is
-  where
-    or_none : (x : Bool) → (x || (false && test (both (map_at ms i) b))) ≡ x
-    or_none true = refl
-    or_none false = refl
-
-pub none_to : (keep test : Map → Bool) (b : Map) (ms : List Map) (places : List ℕ) (old : List Map) → [] ≡ places → old ≡ old ++ filter keep (matches_to test (maps_at ms places) b)
-none_to keep test b ms places old is = sym (append-nil old) ∙ ap (λ ks. old ++ filter keep (matches_to test (maps_at ms ks) b)) is
 
 -- ---- unmatched left tuples
 

@@ -1,8 +1,8 @@
 -- Keys by which tuples are looked up.
-use Rattle.std.specs.Prelude.{◌≡◌, ℕ, suc, Bool, true, false, List, [], ◌∷◌, ◌++◌, map, slice_index_or, Option, Some, None, Vec}
+use Rattle.std.specs.Prelude.{◌≡◌, ℕ, suc, Bool, true, false, List, [], ◌∷◌, ◌++◌, map, slice_index_or, Option, Some, None}
 use Rattle.std.specs.HashMap as hash
 use Rattle.std.specs.HashMap.{HashMap}
-use Rattle.std.specs.declared.alloc.Global.{Global}
+use Rattle.std.specs.Borrow.{Bor}
 use Rattle.jp_base.specs.declared.values.Value.{Value}
 use Rattle.jp_base.specs.declared.values.Value.TheVariants as value
 use Rattle.jp_base.specs.Values.{are_equal}
@@ -14,6 +14,8 @@ use Rattle.jp_joins.specs.Meant.{Meant, value_at}
 use Rattle.jp_joins.specs.Tuples.{map_of}
 use Rattle.jp_joins.specs.declared.keys.Key.{Key}
 use Rattle.jp_joins.specs.declared.keys.Key.TheVariants as key
+use Rattle.jp_joins.specs.declared.listed.Listed.{Listed}
+use Rattle.jp_joins.specs.declared.listed.Listed.TheVariants as few
 use Rattle.jp_joins.specs.declared.tuples.Tuple.{Tuple}
 
 abbrev pub value_of_key : Key → Value
@@ -45,15 +47,23 @@ abbrev pub tuple_has : Meant → Expr → Value → Tuple → Bool
 tuple_has meant side v tuple = has_value meant side v (map_of tuple)
 
 -- what a table lists at the keys that have the value
-abbrev pub listed : {X : Type 0} → Option (Vec X Global) → List X
-listed (Some list) = list.items
+abbrev pub items_of : {X : Type 0} → Listed X → List X
+items_of (few.One x) = x ∷ []
+items_of (few.Many xs) = xs.items
+
+abbrev pub listed : {X : Type 0} → Option (Listed X) → List X
+listed (Some those) = items_of those
 listed None = []
 
 abbrev pub has_key : Value → Key → Bool
 has_key v k = are_equal v (value_of_key k)
 
-abbrev pub table_at : {X S : Type 0} → HashMap Key (Vec X Global) S → Value → List X
+abbrev pub table_at : {X S : Type 0} → HashMap Key (Listed X) S → Value → List X
 table_at table v = listed (hash.get_by (has_key v) table)
+
+-- the lists that are lent
+abbrev pub lists_of : {X : Type 0} → List (Bor (List X)) → List (List X)
+lists_of lent = map (λ l. l.now) lent
 
 abbrev pub once_if : {X : Type 0} → Bool → X → List X
 once_if true x = x ∷ []

@@ -1,17 +1,15 @@
-ghost use Rattle.std.specs.Prelude.{◌≡◌, ◌↔◌, ◌++◌, IfOk, OnOk, Some, filter};
-ghost use Rattle.jp_query.specs.declared.JoinKind.TheVariants as join;
-ghost use Rattle.jp_problem.specs.declared.types.Step.TheVariants as step;
+ghost use Rattle.std.specs.Prelude.{◌≡◌, IfOk, Some};
 ghost use Rattle.jp_joins.specs.Conditions.{CanJoin, CanLookUp, CanLookUpBy};
 ghost use Rattle.jp_joins.specs.KeyPlaces.{IsKeyPlace};
-ghost use Rattle.jp_joins.specs.Keys.{AreMade, table_at, value_of_some};
-ghost use Rattle.jp_joins.specs.Meant.{GivesRows, is_match, left_gives, plain_list};
-ghost use Rattle.jp_joins.specs.Tuples.{map_of, maps_of};
-ghost use Rattle.jp_joins.specs.Working.{CanKeep, CanTryAll, IsReady, is_kept};
+ghost use Rattle.jp_joins.specs.Keys.{AreMade};
+ghost use Rattle.jp_joins.specs.Meant.{GivesRows, plain_list};
+ghost use Rattle.jp_joins.specs.Tuples.{maps_of};
+ghost use Rattle.jp_joins.specs.Working.{IsReady};
 
 use crate::key_places::key_place;
-use crate::keys::{Key, Made, key_cell, key_of, made_keys};
+use crate::keys::{Made, made_keys};
 use crate::numbers::numbers_of;
-use crate::table::table_of;
+use crate::table::{lists_at, table_of};
 use crate::work::{Work, add_left};
 use crate::{Tuple, TupleEnv};
 use bumpalo::Bump;
@@ -19,7 +17,6 @@ use jp_base::{Memory, Row, SubNo};
 use jp_problem::Step;
 use jp_query::Expr;
 use std::alloc::Global;
-use std::collections::HashMap;
 
 /// The step by a table of the right tuples, in which each left tuple is looked up.
 pub fn hash<'t, E: TupleEnv, S: Fn(Tuple<'t>, SubNo) -> Result<Vec<Row>, Memory>>(
@@ -103,46 +100,11 @@ fn looked_up_by<'k, 't, E: TupleEnv, S: Fn(Tuple<'t>, SubNo) -> Result<Vec<Row>,
     ensures { IfOk result (λ v. maps_of v.items ≡ plain_list (E.meant work.now.env.now) (maps_of lefts.now) (maps_of rights.now)) }
 {
     let table = table_of(work.alloc, env, second, rights, made.right.as_slice())?;
+    let lists = lists_at(work.alloc, env, first, lefts, made.left.as_slice(), &table)?;
     let mut found = Vec::new(work.alloc);
     let mut pair = Vec::new(work.alloc);
     'lefts: for at in 0..lefts.len() {
-        let key = key_of(key_cell(env, first, lefts, made.left.as_slice(), at));
-        add_looked_up(work, lefts[at], &table, &key, &mut pair, &mut found)?;
+        add_left(work, lefts[at], lists[at], &mut pair, &mut found)?;
     }
     Ok(found)
-}
-
-/// Adds what a left tuple gives to the step, with the right tuples tried that have the key; NULL has none.
-fn add_looked_up<'k, 't, E: TupleEnv, S: Fn(Tuple<'t>, SubNo) -> Result<Vec<Row>, Memory>>(
-    work: &Work<'_, 't, E, S>,
-    left: Tuple<'t>,
-    table: &HashMap<Key<'k>, Vec<Tuple<'t>>>,
-    key: &Option<Key<'k>>,
-    pair: &mut Vec<Option<u64>>,
-    found: &mut Vec<Tuple<'t>>,
-) -> Result<(), Memory>
-    requires can { S.IsAlwaysCallable work.now.subs.now }
-    requires ready { IsReady (E.meant work.now.env.now) work.now.on_sublinks.now work.now.filter_sublinks.now (S.post work.now.subs.now) }
-    requires kind { ((E.meant work.now.env.now).kind ≡ join.Inner) ↔ (work.now.kind ≡ step.Inner) }
-    requires left { CanKeep (E.meant work.now.env.now) (map_of left) }
-    requires pairs { CanTryAll (E.meant work.now.env.now) work.now.known left (table_at table.now (value_of_some key.now)) }
-    ensures { OnOk result (maps_of found.new.items ≡ maps_of found.old.items
-        ++ filter (is_kept (E.meant work.now.env.now)) (left_gives (E.meant work.now.env.now).kind (is_match (E.meant work.now.env.now)) (maps_of (table_at table.now (value_of_some key.now))) (map_of left.entry))) }
-{
-    match key {
-        Some(key) => match table.get(key) {
-            Some(tuples) => {
-                add_left(work, left, tuples.as_slice(), pair, found)?;
-                Ok(())
-            }
-            None => {
-                add_left(work, left, &[], pair, found)?;
-                Ok(())
-            }
-        },
-        None => {
-            add_left(work, left, &[], pair, found)?;
-            Ok(())
-        }
-    }
 }

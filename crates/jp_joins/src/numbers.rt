@@ -18,6 +18,16 @@ pub fn numbers_of(alloc: Global, exprs: &[Expr]) -> Result<Vec<SubNo>, Memory>
     Ok(list)
 }
 
+/// The numbers of the sublinks of an expression that stand in no other sublink's query, in the order in which they are
+/// written.
+pub fn numbers_of_one(alloc: Global, expr: &Expr) -> Result<Vec<SubNo>, Memory>
+    ensures { IfOk result (λ v. v.items ≡ numbers_in expr.now) }
+{
+    let mut list = Vec::new(alloc);
+    add_numbers(expr, &mut list)?;
+    Ok(list)
+}
+
 /// Adds the numbers of the expression.
 #[cycle(numbers)]
 fn add_numbers(expr: &Expr, list: &mut Vec<SubNo>) -> Result<(), Memory>

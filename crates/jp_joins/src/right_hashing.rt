@@ -5,15 +5,15 @@ ghost use Rattle.jp_frame.specs.Maps.{Map};
 ghost use Rattle.jp_frame.specs.Methods.{matches_to};
 ghost use Rattle.jp_joins.specs.Conditions.{CanJoin, CanLookUp, CanLookUpBy};
 ghost use Rattle.jp_joins.specs.KeyPlaces.{IsKeyPlace};
-ghost use Rattle.jp_joins.specs.Keys.{AreMade, map_at, maps_at, once_if, table_at, value_of_some};
+ghost use Rattle.jp_joins.specs.Keys.{AreMade, map_at, maps_at, once_if};
 ghost use Rattle.jp_joins.specs.Meant.{GivesRows, is_match, right_list};
 ghost use Rattle.jp_joins.specs.Tuples.{map_of, maps_of};
 ghost use Rattle.jp_joins.specs.Working.{AreMarks, CanKeep, CanTry, IsReady, Marks, is_kept, is_not};
 
 use crate::key_places::key_place;
-use crate::keys::{Key, Made, key_cell, key_of, made_keys};
+use crate::keys::{Made, made_keys};
 use crate::numbers::numbers_of;
-use crate::table::places_of;
+use crate::table::{lists_at, places_of};
 use crate::work::{Work, add_kept, add_match};
 use crate::{Tuple, TupleEnv};
 use bumpalo::Bump;
@@ -21,7 +21,6 @@ use jp_base::{Memory, Row, SubNo};
 use jp_problem::Step;
 use jp_query::Expr;
 use std::alloc::Global;
-use std::collections::HashMap;
 
 /// A left join by a table of the left tuples, in which each right tuple is looked up: the right tuples give the order, and
 /// the left tuples without a match come last.
@@ -109,13 +108,20 @@ fn looked_up_by<'k, 't, E: TupleEnv, S: Fn(Tuple<'t>, SubNo) -> Result<Vec<Row>,
     ensures { IfOk result (λ v. maps_of v.items ≡ right_list (E.meant work.now.env.now) (maps_of lefts.now) (maps_of rights.now)) }
 {
     let table = places_of(work.alloc, env, first, lefts, made.left.as_slice())?;
+    let lists = lists_at(
+        work.alloc,
+        env,
+        second,
+        rights,
+        made.right.as_slice(),
+        &table,
+    )?;
     let mut found = Vec::new(work.alloc);
     let mut pair = Vec::new(work.alloc);
     let mut marks = no_marks(work.alloc, lefts.len())?;
     'rights: for at in 0..rights.len() {
-        let key = key_of(key_cell(env, second, rights, made.right.as_slice(), at));
-        add_looked_up(
-            work, lefts, rights[at], &table, &key, &mut marks, &mut pair, &mut found,
+        add_right(
+            work, lefts, rights[at], lists[at], &mut marks, &mut pair, &mut found,
         )?;
     }
     add_unmatched(work, lefts, marks.as_slice(), &mut found)?;
@@ -131,41 +137,6 @@ fn no_marks(alloc: Global, count: usize) -> Result<Vec<bool>, Memory>
         marks.push(false)?;
     }
     Ok(marks)
-}
-
-/// Adds the matches of a right tuple, with the left tuples tried that have the key; NULL has none. Those that match are
-/// marked.
-fn add_looked_up<'k, 't, E: TupleEnv, S: Fn(Tuple<'t>, SubNo) -> Result<Vec<Row>, Memory>>(
-    work: &Work<'_, 't, E, S>,
-    lefts: &[Tuple<'t>],
-    right: Tuple<'t>,
-    table: &HashMap<Key<'k>, Vec<usize>>,
-    key: &Option<Key<'k>>,
-    marks: &mut Vec<bool>,
-    pair: &mut Vec<Option<u64>>,
-    found: &mut Vec<Tuple<'t>>,
-) -> Result<(), Memory>
-    requires can { S.IsAlwaysCallable work.now.subs.now }
-    requires ready { IsReady (E.meant work.now.env.now) work.now.on_sublinks.now work.now.filter_sublinks.now (S.post work.now.subs.now) }
-    requires kind { ((E.meant work.now.env.now).kind ≡ join.Inner) ↔ (work.now.kind ≡ step.Inner) }
-    requires places { All (λ place. place < length lefts.now) (table_at table.now (value_of_some key.now)) }
-    requires pairs { All (λ place. CanTry (E.meant work.now.env.now) work.now.known (map_at (maps_of lefts.now) place) (map_of right)) (table_at table.now (value_of_some key.now)) }
-    requires marks { length marks.now.items ≡ length lefts.now }
-    ensures more { OnOk result (maps_of found.new.items ≡ maps_of found.old.items
-        ++ filter (is_kept (E.meant work.now.env.now)) (matches_to (is_match (E.meant work.now.env.now)) (maps_at (maps_of lefts.now) (table_at table.now (value_of_some key.now))) (map_of right.entry))) }
-    ensures marks { OnOk result (Marks (is_match (E.meant work.now.env.now)) (maps_of lefts.now) (map_of right.entry) (table_at table.now (value_of_some key.now)) marks.old.items marks.new.items) }
-    ensures long { OnOk result (length marks.new.items ≡ length marks.old.items) }
-{
-    match key {
-        Some(key) => match table.get(key) {
-            Some(places) => {
-                add_right(work, lefts, right, places.as_slice(), marks, pair, found)?;
-                Ok(())
-            }
-            None => Ok(()),
-        },
-        None => Ok(()),
-    }
 }
 
 /// Adds the matches of a right tuple with the left tuples at the places, and marks these.
