@@ -10,7 +10,7 @@ use Rattle.jp_problem.specs.declared.types.Method.{Method}
 use Rattle.jp_problem.specs.declared.types.Problem.{Problem}
 use Rattle.jp_problem.specs.declared.types.Step.{Step}
 use Rattle.jp_problem.specs.Made.{IsSearchable}
-use Rattle.jp_problem.specs.Trees.{Tree, IsLegalTree, set_of}
+use Rattle.jp_problem.specs.Trees.{Tree, set_of}
 use Rattle.jp_problem.specs.Trees as tree
 use Rattle.jp_cost.specs.TreeCosts.{tree_cost}
 use Rattle.jp_tree.specs.declared.prepared.Block.{Block}
@@ -22,7 +22,7 @@ use Rattle.jp_tree.specs.Prepared.{IsWhole, IsPlannable, HasPlan}
 use Rattle.jp_explain.specs.Lines.{deeper}
 use Rattle.jp_explain.specs.Plans.{Inner, IsBehind, block_text, head_lines, item_texts, plan_at, plan_of, plan_text, plans_behind, plans_from, problem_at, problem_of, scan_lines, scan_text, step_lines, tree_text}
 use Rattle.jp_tree.specs.PlanTrees.{IsLegalAt, tree_at}
-use Rattle.jp_explain.proofs.PlanLaws.{tree_join, tree_scan}
+use Rattle.jp_tree.proofs.PlanTreeLaws.{tree_join, tree_scan}
 
 -- ---- lists
 

@@ -2,7 +2,6 @@
 #![tactic(auto)]
 
 mod expressions;
-mod laws;
 mod lines;
 mod names;
 mod nodes;
@@ -12,6 +11,5 @@ mod statements;
 mod values;
 mod weights;
 
-pub use laws::plans_are_printed;
 pub use statements::explain_text;
 pub use weights::{Weight, weight_of};

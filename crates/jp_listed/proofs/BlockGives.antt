@@ -58,7 +58,7 @@ use Rattle.jp_tree.specs.declared.prepared.Block.{Block}
 use Rattle.jp_tree.specs.declared.prepared.Prepared.{Prepared}
 use Rattle.jp_tree.specs.PlanTrees.{tree_at}
 use Rattle.jp_tree.specs.Pools.{IsPool}
-use Rattle.jp_explain.proofs.PlanLaws.{tree_named}
+use Rattle.jp_tree.proofs.PlanTreeLaws.{tree_named}
 use Rattle.jp_prepared.specs.Planned.{IsPrepared}
 use Rattle.jp_prepared.specs.Searched.{CanBeSearched}
 use Rattle.jp_prepared.specs.Sources.{Source, IsSourceAt, items_of_block}

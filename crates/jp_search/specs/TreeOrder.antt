@@ -3,7 +3,7 @@ use Rattle.std.specs.Prelude.{◌≡◌, ℕ, ◌<◌, ◌⊎◌}
 use Rattle.jp_problem.specs.declared.types.Problem.{Problem}
 use Rattle.jp_problem.specs.declared.types.Method.{Method}
 use Rattle.jp_problem.specs.declared.types.Method.TheVariants.{Nest, Hash, HashRight, Merge}
-use Rattle.jp_problem.specs.Trees.{Tree, Scan, Join, set_of, IsLegalTree}
+use Rattle.jp_problem.specs.Trees.{Tree, Join, set_of, IsLegalTree}
 use Rattle.jp_cost.specs.TreeCosts.{tree_cost}
 
 abbrev pub rank : Method → ℕ

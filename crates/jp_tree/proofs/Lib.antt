@@ -1,2 +1,3 @@
 pub mod ExampleLaws
+pub mod PlanTreeLaws
 pub mod PoolLaws

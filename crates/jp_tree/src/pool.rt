@@ -1,5 +1,5 @@
 ghost use Rattle.std.specs.Prelude.{◌≡◌, ◌≤◌, ◌<◌, ◌+◌, ◌++◌, ◌∷◌, [], length, is_ok, if◌then◌else◌, IfOk, OnOk, OnErr, slice_get, Some};
-ghost use Rattle.jp_tree.specs.Pools.{HasChildrenBelow};
+ghost use Rattle.jp_tree.specs.Pools.{HasChildrenBelow, IsPool};
 
 use jp_base::{ItemNo, Memory};
 use jp_problem::{Method, Step};
@@ -71,6 +71,13 @@ impl Pool {
         let id = self.nodes.len();
         self.nodes.push(node)?;
         Ok(id)
+    }
+
+    /// A law: the children of each node have lesser numbers than it.
+    pub fn has_children_before(&self)
+        ensures { IsPool self.now.nodes }
+    {
+        let _nodes = &self.nodes;
     }
 
     /// The node of a number.

@@ -9,7 +9,7 @@ use Rattle.jp_tree.proofs.PoolLaws.{named_below}
 use Rattle.jp_tree.specs.PlanTrees.{IsLegalAt, tree_at}
 use Rattle.jp_explain.specs.Plans.{IsBehind, item_texts, plans_behind, problem_at, scan_lines, step_lines, tree_text}
 use Rattle.jp_explain.proofs.BlockLaws.{blocks_behind, full_pushed, item_pushed, join_pushed, legal_plan, plan_is, scan_pushed, searchable_at, sub_pushed}
-use Rattle.jp_explain.proofs.PlanLaws.{legal_item, legal_sides}
+use Rattle.jp_tree.proofs.PlanTreeLaws.{legal_item, legal_sides}
 use Rattle.jp_explain.proofs.plans.+plans.Goals as goal
 
 -- ---- blocks

@@ -6,7 +6,8 @@ use Rattle.jp_cost.specs.Estimates.{estimate}
 use Rattle.jp_cost.specs.TreeCosts.{tree_cost}
 use Rattle.jp_tree.specs.declared.pool.PlanNode.TheVariants as node
 use Rattle.jp_tree.proofs.PoolLaws.{named_below}
-use Rattle.jp_explain.proofs.PlanLaws.{legal_item, legal_sides, named_join, named_scan, step_fits, tree_join, tree_scan}
+use Rattle.jp_tree.proofs.PlanTreeLaws.{legal_item, legal_sides, named_join, named_scan, tree_join, tree_scan}
+use Rattle.jp_explain.proofs.PlanLaws.{step_fits}
 use Rattle.jp_explain.proofs.weights.+weight_of.Goals as goal
 
 pub node-requires : goal.node-requires

@@ -1,6 +1,4 @@
-use Rattle.std.proofs.Common.{◌∙◌, sym, ap, arith, Bool, true, false}
-use Rattle.std.specs.Prelude.{is_some}
-use Rattle.std.proofs.lemmas.Bool.{both_ways}
+use Rattle.std.proofs.Common.{◌∙◌, sym, ap, Bool, true, false}
 use Rattle.jp_problem.specs.Keys.{key_of}
 use Rattle.jp_search.specs.Splits.{by_key}
 use Rattle.jp_search.proofs.MethodLaws.{without_any, no_dearer, passed_over, by_its_key, has_none, lacks_key}

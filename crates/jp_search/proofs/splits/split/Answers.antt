@@ -1,4 +1,4 @@
-use Rattle.std.proofs.Common.{◌∙◌, sym, ap, refl, Some}
+use Rattle.std.proofs.Common.{◌∙◌, sym, ap, refl}
 use Rattle.jp_problem.proofs.LegalLaws.{step_says}
 use Rattle.jp_search.specs.Splits.{lesser, method_of, stepped}
 use Rattle.jp_search.proofs.SplitLaws.{all_there, no_right, no_left, no_step}
