@@ -8,10 +8,8 @@ use Rattle.std.proofs.lemmas.List.Elements.{All-append, All-nil, All-weaker}
 use Rattle.jp_catalog.specs.Reading.{catalogue_of}
 use Rattle.jp_catalog.specs.declared.types.Catalog.{Catalog}
 use Rattle.jp_io.specs.Sinks.{TookMore}
-use Rattle.jp_query.specs.Tables.{TableRows, IsLoaded, rows_of_tables}
-use Rattle.jp_query.specs.Meaning.{no_outer_rows, meaning}
+use Rattle.jp_query.specs.Tables.{TableRows, IsLoaded}
 use Rattle.jp_query.specs.Mentions.{tables_mentioned}
-use Rattle.jp_laws.proofs.OrderedRows.{rows_in_order}
 use Rattle.jp_lex.specs.Answer as cutting
 use Rattle.jp_lex.specs.Cutting.{Refused, Tokens}
 use Rattle.jp_query.specs.declared.Query.{Query}
@@ -21,8 +19,8 @@ use Rattle.jp_resolution.specs.Resolving.{resolved}
 use Rattle.joinplan.specs.declared.refusal.Refusal.{Refusal}
 use Rattle.joinplan.specs.declared.refusal.Refusal.TheVariants as refusal
 use Rattle.joinplan.specs.Refusals.{resolve_refusal}
-use Rattle.joinplan.specs.Answers.{NamedTable, Rows, Output, Bytes, PlanOf, HasBytes, PrintsTold, answer_in, answer_of, bytes_or_refuse, explain_in, plan_in, planned_in, catalogue_in, check_in, count_line, counts_in, file_limit, none_loaded, output_in, query_in, query_of, read_into, run_in, selected_in, source_in, statement_in, statement_limit, table_in, tables_read, text_in, with_count, with_table}
-use Rattle.joinplan.specs.Headline.{AreCounted, HasCatalogue, HasPlace, HasRows, HasTables, IsAnswerTo, IsCount, IsHeld, IsInItsOrder, IsOrderedAnswer, IsPlanText, PrintsAnswer, PrintsInOrder}
+use Rattle.joinplan.specs.Answers.{NamedTable, Rows, Output, Bytes, PlanOf, RowsOf, HasBytes, IsListText, PrintsTold, answer_in, answer_of, bytes_or_refuse, explain_in, plan_in, planned_in, catalogue_in, check_in, count_line, counts_in, file_limit, none_loaded, output_in, query_in, query_of, read_into, rows_listed, run_in, selected_in, source_in, statement_in, statement_limit, table_in, tables_read, text_in, with_count, with_table}
+use Rattle.joinplan.specs.Headline.{AreCounted, HasCatalogue, HasPlace, HasRows, HasTables, IsAnswerTo, IsCount, IsHeld, IsListed, IsListedAnswer, IsOrderedAnswer, IsPlanText, PrintsSuch}
 use Rattle.joinplan.specs.Readings.{Held, Reading, after, content_of, fold_in}
 use Rattle.joinplan.specs.Words.{Command, Run, Explain, Check, command_of}
 use Rattle.joinplan.proofs.StatementLemmas.{found, statement_found}
@@ -143,30 +141,38 @@ module _ (held : Held) (catalog : Catalog) where
       record { places = done.good.places; named = All-weaker (IsLoaded tables) (HasPlace held catalog tables) (placed tables done.good) (tables_in query) (all_of_each (IsLoaded tables) (tables_in query) done.loaded) }
 
 module _ (law : (src : List ℕ) → MatchResult (cutting.answer src) (Tokens src) (Refused src)) where
-  run_answer : (held : Held) (catalogue statement bytes : List ℕ) → (run_in catalogue statement held).answer ≡ Ok bytes → IsInItsOrder held catalogue statement bytes
-  run_answer held catalogue statement bytes e =
-      let (catalog, catalog_read, rest) = came_of (catalogue_in held catalogue).names (catalogue_in held catalogue).answer (query_in held statement) bytes e in
-      let (stmt, stmt_read, selected) = came_of (statement_in held statement).names (statement_in held statement).answer (selected_in held catalog) bytes rest in
+  run_answer : (held : Held) (catalogue statement bytes : List ℕ) (output : Output) → (run_in catalogue statement held).answer ≡ Ok output → HasBytes output bytes → IsListed held catalogue statement bytes
+  run_answer held catalogue statement bytes output e has =
+      let (catalog, catalog_read, rest) = came_of (catalogue_in held catalogue).names (catalogue_in held catalogue).answer (query_in held statement) output e in
+      let (stmt, stmt_read, selected) = came_of (statement_in held statement).names (statement_in held statement).answer (selected_in held catalog) output rest in
       let (source, source_read, stmt_known) = came_of (source_in held statement).names (source_in held statement).answer _ stmt stmt_read in
-      let (query, query_known, output) = came_of [] (query_of catalog stmt) (output_in held catalog) bytes selected in
-      let (tables, tables_are, printed_known) = came_of (tables_read held catalog query).names (tables_read held catalog query).answer _ bytes output in
+      let (query, query_known, listed) = came_of [] (query_of catalog stmt) (output_in held catalog) output selected in
+      let (tables, tables_are, known) = came_of (tables_read held catalog query).names (tables_read held catalog query).answer _ output listed in
+      let is : RowsOf catalog query tables ≡ output = cc in
+      let text : IsListText catalog query tables bytes = subst (λ o. HasBytes o bytes) (sym is) has in
       record {
-        meant = record {
-          catalog = catalog;
-          catalogue_is = has_catalogue held catalogue catalog catalog_read;
-          source = source;
-          source_held = content_held held statement statement_limit _ (held statement) source refl source_read;
-          stmt = stmt;
-          statement_is = statement_found law source stmt stmt_known;
-          query = query;
-          query_is = found resolve_refusal (resolved catalog stmt) query query_known;
-          tables = tables;
-          tables_are = has_tables held catalog query tables tables_are;
-          rows = meaning (rows_of_tables tables) query no_outer_rows;
-          rows_are = refl;
-          printed = cc;
+        ordered = record {
+          meant = record {
+            catalog = catalog;
+            catalogue_is = has_catalogue held catalogue catalog catalog_read;
+            source = source;
+            source_held = content_held held statement statement_limit _ (held statement) source refl source_read;
+            stmt = stmt;
+            statement_is = statement_found law source stmt stmt_known;
+            query = query;
+            query_is = found resolve_refusal (resolved catalog stmt) query query_known;
+            tables = tables;
+            tables_are = has_tables held catalog query tables tables_are;
+            rows = rows_listed text.prepared tables;
+            rows_are = text.meant;
+            printed = text.printed;
+          };
+          in_order = text.in_order;
         };
-        in_order = rows_in_order (rows_of_tables tables) query no_outer_rows;
+        prepared = text.prepared;
+        is_prepared = text.is_prepared;
+        whole = text.whole;
+        listed = refl;
       }
 
   -- ---- `explain`
@@ -221,22 +227,25 @@ bytes_read (Ok text) output bytes e has =
     ap Ok (sym (subst (λ o. HasBytes o bytes) (sym is) has))
 
 module _ (law : (src : List ℕ) → MatchResult (cutting.answer src) (Tokens src) (Refused src)) where
-  words_answer : (held : Held) (command : Option Command) (bytes : List ℕ) (output : Output) → (answer_in command held).answer ≡ Ok output → HasBytes output bytes → IsAnswerTo held command bytes
+  pub words_answer : (held : Held) (command : Option Command) (bytes : List ℕ) (output : Output) → (answer_in command held).answer ≡ Ok output → HasBytes output bytes → IsAnswerTo held command bytes
   words_answer held None bytes output e has = cc
-  words_answer held (Some (Run catalogue statement)) bytes output e has = (run_answer law held catalogue statement bytes (bytes_read _ output bytes e has)).meant
+  words_answer held (Some (Run catalogue statement)) bytes output e has = (run_answer law held catalogue statement bytes output e has).ordered.meant
   words_answer held (Some (Explain catalogue statement)) bytes output e has = explain_answer law held catalogue statement bytes output e has
   words_answer held (Some (Check catalogue)) bytes output e has = check_answer held catalogue bytes (bytes_read _ output bytes e has)
 
-  words_ordered : (held : Held) (command : Option Command) (bytes : List ℕ) (output : Output) → (answer_in command held).answer ≡ Ok output → HasBytes output bytes → IsOrderedAnswer held command bytes
+  pub words_ordered : (held : Held) (command : Option Command) (bytes : List ℕ) (output : Output) → (answer_in command held).answer ≡ Ok output → HasBytes output bytes → IsOrderedAnswer held command bytes
   words_ordered held None bytes output e has = cc
-  words_ordered held (Some (Run catalogue statement)) bytes output e has = run_answer law held catalogue statement bytes (bytes_read _ output bytes e has)
+  words_ordered held (Some (Run catalogue statement)) bytes output e has = (run_answer law held catalogue statement bytes output e has).ordered
   words_ordered held (Some (Explain catalogue statement)) bytes output e has = tt
   words_ordered held (Some (Check catalogue)) bytes output e has = tt
 
-  pub prints_answer : (words : List (List ℕ)) (contents : Option Held) (before now : Option (List ℕ)) (v : Vec ℕ Global) → PrintsTold (Ok v) contents (answer_of words) → TookMore before v.items now → PrintsAnswer contents words before now
-  prints_answer words None before now v h took = tt
-  prints_answer words (Some held) before now v (output, e, has) took = record { bytes = v.items; answer = words_answer held (command_of words) v.items output e has; took = took }
+  pub words_listed : (held : Held) (command : Option Command) (bytes : List ℕ) (output : Output) → (answer_in command held).answer ≡ Ok output → HasBytes output bytes → IsListedAnswer held command bytes
+  words_listed held None bytes output e has = cc
+  words_listed held (Some (Run catalogue statement)) bytes output e has = run_answer law held catalogue statement bytes output e has
+  words_listed held (Some (Explain catalogue statement)) bytes output e has = tt
+  words_listed held (Some (Check catalogue)) bytes output e has = tt
 
-  pub prints_in_order : (words : List (List ℕ)) (contents : Option Held) (before now : Option (List ℕ)) (v : Vec ℕ Global) → PrintsTold (Ok v) contents (answer_of words) → TookMore before v.items now → PrintsInOrder contents words before now
-  prints_in_order words None before now v h took = tt
-  prints_in_order words (Some held) before now v (output, e, has) took = record { bytes = v.items; ordered = words_ordered held (command_of words) v.items output e has; took = took }
+pub prints_such : (IsSuch : Held → Option Command → List ℕ → Type 0) → ((held : Held) (command : Option Command) (bytes : List ℕ) (output : Output) → (answer_in command held).answer ≡ Ok output → HasBytes output bytes → IsSuch held command bytes)
+    → (words : List (List ℕ)) (contents : Option Held) (before now : Option (List ℕ)) (v : Vec ℕ Global) → PrintsTold (Ok v) contents (answer_of words) → TookMore before v.items now → PrintsSuch IsSuch contents words before now
+prints_such IsSuch such words None before now v h took = tt
+prints_such IsSuch such words (Some held) before now v (output, e, has) took = record { bytes = v.items; answer = such held (command_of words) v.items output e has; took = took }

@@ -95,7 +95,7 @@ module _ (held : Held) where
 
   command_read : (o : Option Command) → Holds (answer_in o held).names (answer_in o held).answer
   command_read None = none_read _
-  command_read (Some (Run catalogue statement)) = as_output_read _ (run_in catalogue statement held).answer (run_read catalogue statement)
+  command_read (Some (Run catalogue statement)) = run_read catalogue statement
   command_read (Some (Explain catalogue statement)) = explain_read catalogue statement
   command_read (Some (Check catalogue)) = as_output_read _ (check_in catalogue held).answer (check_read catalogue)
 

@@ -13,9 +13,7 @@ use Rattle.jp_table.specs.declared.error.TableError.TheVariants as table_error
 use Rattle.joinplan.specs.declared.refusal.Refusal.{Refusal}
 use Rattle.joinplan.specs.declared.refusal.Refusal.TheVariants as refusal
 use Rattle.joinplan.specs.Faults.{Counts, IsExplained}
-use Rattle.jp_catalog.specs.declared.types.Catalog.{Catalog}
-use Rattle.jp_query.specs.declared.Query.{Query}
-use Rattle.joinplan.specs.Answers.{Output, Bytes, PlanOf, HasBytes, Prints, PrintsTold, as_output, bytes_or_refuse}
+use Rattle.joinplan.specs.Answers.{Output, Bytes, HasBytes, Prints, PrintsTold, as_output, bytes_or_refuse}
 use Rattle.joinplan.specs.Readings.{Held, Reading, known, after, and_then, content_of, file_of, fold_in, Agrees, AgreesRefused, AgreesTold}
 use Rattle.joinplan.specs.Refusals.{IsNamed}
 
@@ -287,6 +285,6 @@ pub printed_memory : (contents : Option Held) (reading : Held → Reading Output
 printed_memory None reading = tt
 printed_memory (Some held) reading = tt
 
-pub printed_plan : (contents : Option Held) (catalog : Catalog) (query : Query) (v : Vec ℕ Global) → HasBytes (PlanOf catalog query) v.items → PrintsTold (Ok v) contents (λ held. known (Ok (PlanOf catalog query)))
-printed_plan None catalog query v h = tt
-printed_plan (Some held) catalog query v h = (PlanOf catalog query, refl, h)
+pub printed_output : (contents : Option Held) (output : Output) (v : Vec ℕ Global) → HasBytes output v.items → PrintsTold (Ok v) contents (λ held. known (Ok output))
+printed_output None output v h = tt
+printed_output (Some held) output v h = (output, refl, h)

@@ -8,6 +8,8 @@ use Rattle.jp_base.specs.declared.values.Value.{Value}
 use Rattle.jp_catalog.specs.Reading.{Read, catalogue_of}
 use Rattle.jp_catalog.specs.declared.types.Catalog.{Catalog}
 use Rattle.jp_catalog.specs.declared.types.TableDef.{TableDef}
+use Rattle.std.specs.List.Sorted.{IsPermutation}
+use Rattle.jp_query.specs.InOrder.{IsInOrder}
 use Rattle.jp_query.specs.Tables.{TableRows, rows_of_tables}
 use Rattle.jp_query.specs.Meaning.{no_outer_rows, meaning}
 use Rattle.jp_query.specs.Mentions.{tables_mentioned}
@@ -20,7 +22,9 @@ use Rattle.jp_parse.specs.Verdict as reading
 use Rattle.jp_query.specs.declared.Query.{Query, out-Query}
 use Rattle.jp_table.specs.Loading.{Judged, table_of}
 use Rattle.jp_resolution.specs.Resolving.{resolved}
+use Rattle.jp_lists.specs.Lists.{list_of}
 use Rattle.jp_tree.specs.declared.prepared.Prepared.{Prepared}
+use Rattle.jp_tree.specs.Prepared.{IsWhole}
 use Rattle.jp_prepared.specs.Planned.{IsPrepared}
 use Rattle.jp_explain.specs.Plans.{explain_text}
 use Rattle.jp_session.specs.Output.{output_text}
@@ -80,6 +84,35 @@ NamedTable = List ℕ × TableDef
 abbrev pub table_in : Held → NamedTable → Reading Rows
 table_in held table = and_then (text_in held table.1.file) (λ bytes. known (rows_or_refuse table.0 (table_of table.1 bytes)))
 
+-- ---- what is printed
+
+-- These bytes; or the plan of a query; or the rows that the plan of a query lists over tables. In a plan the numbers of blocks
+-- are free.
+pub data Output : Type 0 where
+  Bytes : List ℕ → Output
+  PlanOf : Catalog → Query → Output
+  RowsOf : Catalog → Query → TableRows → Output
+
+-- the rows that the plans of a prepared statement list
+abbrev pub rows_listed : Prepared → TableRows → Rows
+rows_listed prepared tables = list_of prepared (rows_of_tables tables) 0 no_outer_rows
+
+-- These bytes are the rows that the plans of a prepared statement of the query list, under the names of the query's outputs.
+-- As a bag they are what the query means, and they stand in the order of its ORDER BY.
+pub record IsListText (catalog : Catalog) (query : Query) (tables : TableRows) (bytes : List ℕ) : Type 0 where
+  pub prepared : Prepared
+  pub is_prepared : IsPrepared catalog query prepared
+  pub whole : IsWhole prepared
+  pub meant : IsPermutation (meaning (rows_of_tables tables) query no_outer_rows) (rows_listed prepared tables)
+  pub in_order : IsInOrder (rows_of_tables tables) query no_outer_rows (rows_listed prepared tables)
+  pub printed : bytes ≡ output_text (out-Query query).columns (rows_listed prepared tables)
+
+-- the plan is that of a prepared statement of the query
+abbrev pub HasBytes : Output → List ℕ → Type 0
+HasBytes (Bytes text) bytes = bytes ≡ text
+HasBytes (PlanOf catalog query) bytes = (prepared : Prepared) × IsPrepared catalog query prepared × (bytes ≡ explain_text prepared)
+HasBytes (RowsOf catalog query tables) bytes = IsListText catalog query tables bytes
+
 -- ---- `run`
 
 abbrev pub none_loaded : Catalog → TableRows
@@ -97,12 +130,9 @@ with_table held catalog tables place = read_into held tables place (slice_get ca
 abbrev pub tables_read : Held → Catalog → Query → Reading TableRows
 tables_read held catalog query = fold_in (with_table held catalog) (none_loaded catalog) (tables_mentioned query)
 
--- the query's meaning, printed
-abbrev pub printed : Query → TableRows → List ℕ
-printed query tables = output_text (out-Query query).columns (meaning (rows_of_tables tables) query no_outer_rows)
-
-abbrev pub output_in : Held → Catalog → Query → Reading (List ℕ)
-output_in held catalog query = and_then (tables_read held catalog query) (λ tables. known (Ok (printed query tables)))
+-- the rows of the query, over the tables that it mentions
+abbrev pub output_in : Held → Catalog → Query → Reading Output
+output_in held catalog query = and_then (tables_read held catalog query) (λ tables. known (Ok (RowsOf catalog query tables)))
 
 -- the query of a statement
 abbrev pub query_of : Catalog → Stmt → Result Query Refusal
@@ -111,13 +141,13 @@ query_of catalog stmt = refused_as resolve_refusal (resolved catalog stmt)
 abbrev pub resolved_in : Catalog → Stmt → Reading Query
 resolved_in catalog stmt = known (query_of catalog stmt)
 
-abbrev pub selected_in : Held → Catalog → Stmt → Reading (List ℕ)
+abbrev pub selected_in : Held → Catalog → Stmt → Reading Output
 selected_in held catalog stmt = and_then (resolved_in catalog stmt) (output_in held catalog)
 
-abbrev pub query_in : Held → List ℕ → Catalog → Reading (List ℕ)
+abbrev pub query_in : Held → List ℕ → Catalog → Reading Output
 query_in held name catalog = and_then (statement_in held name) (selected_in held catalog)
 
-abbrev pub run_in : List ℕ → List ℕ → Held → Reading (List ℕ)
+abbrev pub run_in : List ℕ → List ℕ → Held → Reading Output
 run_in catalogue statement held = and_then (catalogue_in held catalogue) (query_in held statement)
 
 -- ---- `check`
@@ -140,16 +170,6 @@ check_in catalogue held = and_then (catalogue_in held catalogue) (counts_in held
 
 -- ---- `explain`
 
--- What is printed: these bytes, or the plan of a query, in which the numbers of blocks are free.
-pub data Output : Type 0 where
-  Bytes : List ℕ → Output
-  PlanOf : Catalog → Query → Output
-
--- the plan is that of a prepared statement of the query
-abbrev pub HasBytes : Output → List ℕ → Type 0
-HasBytes (Bytes text) bytes = bytes ≡ text
-HasBytes (PlanOf catalog query) bytes = (prepared : Prepared) × IsPrepared catalog query prepared × (bytes ≡ explain_text prepared)
-
 abbrev pub planned_in : Catalog → Stmt → Reading Output
 planned_in catalog stmt = and_then (resolved_in catalog stmt) (λ query. known (Ok (PlanOf catalog query)))
 
@@ -169,7 +189,7 @@ abbrev pub as_output : Reading (List ℕ) → Reading Output
 as_output reading = record { names = reading.names; answer = bytes_or_refuse reading.answer }
 
 abbrev pub command_in : Command → Held → Reading Output
-command_in (Run catalogue statement) held = as_output (run_in catalogue statement held)
+command_in (Run catalogue statement) held = run_in catalogue statement held
 command_in (Explain catalogue statement) held = explain_in catalogue statement held
 command_in (Check catalogue) held = as_output (check_in catalogue held)
 

@@ -1,12 +1,13 @@
 -- What status 0 says, in the words of the statement: each file that the command needs is there, within its limit and
--- read to its end, and the output is the statement's meaning over the whole tables, the text of its plan, or the counts of
--- all tables.
+-- read to its end, and the output is the list of the statement's plan, which is its meaning over the whole tables, the text of
+-- its plan, or the counts of all tables.
 use Rattle.std.specs.Prelude.{◌≡◌, ℕ, ◌≤◌, List, [], ◌∷◌, ◌++◌, length, map, All, Option, Some, None, Ok, slice_get}
 use Rattle.jp_catalog.specs.Reading.{catalogue_of}
 use Rattle.jp_catalog.specs.declared.types.Catalog.{Catalog}
 use Rattle.jp_io.specs.Sinks.{TookMore}
 use Rattle.jp_query.specs.Tables.{TableRows, rows_of_tables}
 use Rattle.jp_query.specs.Meaning.{no_outer_rows, meaning}
+use Rattle.std.specs.List.Sorted.{IsPermutation}
 use Rattle.jp_query.specs.InOrder.{IsInOrder}
 use Rattle.jp_lex.specs.Cutting.{Lexeme, Tokens}
 use Rattle.jp_ast.specs.Grammar.{Derives}
@@ -18,10 +19,11 @@ use Rattle.jp_query.specs.declared.Query.{Query, out-Query}
 use Rattle.jp_table.specs.Loading.{table_of}
 use Rattle.jp_resolution.specs.Resolving.{resolved}
 use Rattle.jp_tree.specs.declared.prepared.Prepared.{Prepared}
+use Rattle.jp_tree.specs.Prepared.{IsWhole}
 use Rattle.jp_prepared.specs.Planned.{IsPrepared}
 use Rattle.jp_explain.specs.Plans.{explain_text}
 use Rattle.jp_session.specs.Output.{output_text}
-use Rattle.joinplan.specs.Answers.{NamedTable, Rows, count_line, file_limit, statement_limit}
+use Rattle.joinplan.specs.Answers.{NamedTable, Rows, count_line, file_limit, rows_listed, statement_limit}
 use Rattle.joinplan.specs.Readings.{Held}
 use Rattle.joinplan.specs.Words.{Command, Run, Explain, Check, command_of}
 
@@ -62,8 +64,8 @@ pub record IsStatementOf (source : List ℕ) (stmt : Stmt) : Type 0 where
   pub nested : NestsWithin (map seen tokens)
   pub derived : Derives (map seen tokens) stmt
 
--- These bytes are the meaning of the statement: the names of its outputs, and the meaning's rows in their order, no one
--- more, none less and none twice.
+-- These bytes are the meaning of the statement: the names of its outputs, and the meaning's rows as a bag, no one more, none
+-- less and none twice.
 pub record IsMeaning (held : Held) (catalogue statement : List ℕ) (bytes : List ℕ) : Type 0 where
   pub catalog : Catalog
   pub catalogue_is : HasCatalogue held catalogue catalog
@@ -76,13 +78,22 @@ pub record IsMeaning (held : Held) (catalogue statement : List ℕ) (bytes : Lis
   pub tables : TableRows
   pub tables_are : HasTables held catalog query tables
   pub rows : Rows
-  pub rows_are : rows ≡ meaning (rows_of_tables tables) query no_outer_rows
+  pub rows_are : IsPermutation (meaning (rows_of_tables tables) query no_outer_rows) rows
   pub printed : bytes ≡ output_text (out-Query query).columns rows
 
 -- these bytes are the meaning of the statement, and its rows stand in the order of its ORDER BY
 pub record IsInItsOrder (held : Held) (catalogue statement : List ℕ) (bytes : List ℕ) : Type 0 where
   pub meant : IsMeaning held catalogue statement bytes
   pub in_order : IsInOrder (rows_of_tables meant.tables) meant.query no_outer_rows meant.rows
+
+-- These rows are those that the plans of a prepared statement of the query list: of one that is whole, so that each block has a
+-- legal tree of its items, and in which the plan of each block is the first of these.
+pub record IsListed (held : Held) (catalogue statement : List ℕ) (bytes : List ℕ) : Type 0 where
+  pub ordered : IsInItsOrder held catalogue statement bytes
+  pub prepared : Prepared
+  pub is_prepared : IsPrepared ordered.meant.catalog ordered.meant.query prepared
+  pub whole : IsWhole prepared
+  pub listed : ordered.meant.rows ≡ rows_listed prepared ordered.meant.tables
 
 -- These bytes are the text of the statement's plan: of a prepared statement of its query, in which the plan of each block is
 -- the first of the legal trees of its items. No data file is looked at.
@@ -116,28 +127,25 @@ IsAnswerTo held (Some (Run catalogue statement)) bytes = IsMeaning held catalogu
 IsAnswerTo held (Some (Explain catalogue statement)) bytes = IsPlanText held catalogue statement bytes
 IsAnswerTo held (Some (Check catalogue)) bytes = IsCount held catalogue bytes
 
--- where the contents of the files are told, a sink took the answer to the words
-pub record TookAnswer (held : Held) (words : List (List ℕ)) (before now : Option (List ℕ)) : Type 0 where
-  pub bytes : List ℕ
-  pub answer : IsAnswerTo held (command_of words) bytes
-  pub took : TookMore before bytes now
-
-abbrev pub PrintsAnswer : Option Held → List (List ℕ) → Option (List ℕ) → Option (List ℕ) → Type 0
-PrintsAnswer None words before now = Unit {0}
-PrintsAnswer (Some held) words before now = TookAnswer held words before now
-
--- the same of the order; the lines of `explain` and `check` have none of their own
+-- the same of the order and of the plan that is run; the lines of `explain` and `check` have none of their own
 abbrev pub IsOrderedAnswer : Held → Option Command → List ℕ → Type 0
 IsOrderedAnswer held None bytes = ⊥
 IsOrderedAnswer held (Some (Run catalogue statement)) bytes = IsInItsOrder held catalogue statement bytes
 IsOrderedAnswer held (Some (Explain catalogue statement)) bytes = Unit {0}
 IsOrderedAnswer held (Some (Check catalogue)) bytes = Unit {0}
 
-pub record TookOrdered (held : Held) (words : List (List ℕ)) (before now : Option (List ℕ)) : Type 0 where
+abbrev pub IsListedAnswer : Held → Option Command → List ℕ → Type 0
+IsListedAnswer held None bytes = ⊥
+IsListedAnswer held (Some (Run catalogue statement)) bytes = IsListed held catalogue statement bytes
+IsListedAnswer held (Some (Explain catalogue statement)) bytes = Unit {0}
+IsListedAnswer held (Some (Check catalogue)) bytes = Unit {0}
+
+-- where the contents of the files are told, a sink took bytes that are such an answer to the words
+pub record TookSuch (IsSuch : Held → Option Command → List ℕ → Type 0) (held : Held) (words : List (List ℕ)) (before now : Option (List ℕ)) : Type 0 where
   pub bytes : List ℕ
-  pub ordered : IsOrderedAnswer held (command_of words) bytes
+  pub answer : IsSuch held (command_of words) bytes
   pub took : TookMore before bytes now
 
-abbrev pub PrintsInOrder : Option Held → List (List ℕ) → Option (List ℕ) → Option (List ℕ) → Type 0
-PrintsInOrder None words before now = Unit {0}
-PrintsInOrder (Some held) words before now = TookOrdered held words before now
+abbrev pub PrintsSuch : (Held → Option Command → List ℕ → Type 0) → Option Held → List (List ℕ) → Option (List ℕ) → Option (List ℕ) → Type 0
+PrintsSuch IsSuch None words before now = Unit {0}
+PrintsSuch IsSuch (Some held) words before now = TookSuch IsSuch held words before now

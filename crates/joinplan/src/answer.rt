@@ -1,11 +1,11 @@
 ghost use Rattle.std.specs.Prelude.{◌≡◌, ◌≢◌, ◌⊎◌, [], Err, IfErr, IfOk, None, Some, map, string_bytes};
 ghost use Rattle.jp_catalog.specs.Sound.{AreOfSize, IsSound};
 ghost use Rattle.jp_io.specs.Files.{NoneFalls, StaysSound};
-ghost use Rattle.jp_query.specs.Tables.{AllLoaded, IsTypedOver};
+ghost use Rattle.jp_query.specs.Tables.{Belong};
 ghost use Rattle.jp_query.specs.Conditions.{IsBounded, IsTyped};
 ghost use Rattle.jp_query.specs.Freshness.{IsFresh};
 ghost use Rattle.jp_resolution.specs.Schemas.{schema_of};
-ghost use Rattle.joinplan.specs.Answers.{HasBytes, PlanOf, PrintsTold, answer_of, check_in, command_in, explain_in, output_in, plan_in, printed, query_in, run_in};
+ghost use Rattle.joinplan.specs.Answers.{HasBytes, PlanOf, PrintsTold, RowsOf, answer_of, check_in, command_in, explain_in, output_in, plan_in, query_in, run_in};
 ghost use Rattle.joinplan.specs.Faults.{IsExplained, IsTableFile, MayBeRead};
 ghost use Rattle.joinplan.specs.Readings.{AgreesTold};
 ghost use Rattle.joinplan.specs.declared.refusal.Refusal.TheVariants as refusal;
@@ -22,9 +22,9 @@ use crate::words::{Command, command_of};
 use jp_base::Memory;
 use jp_catalog::Catalog;
 use jp_io::Files;
-use jp_naive::meaning_of;
+use jp_listed::plans_list_what_the_statement_means;
 use jp_query::Query;
-use jp_session::{explain_query, output_text, prepare};
+use jp_session::{explain_query, output_text, prepare, run_query};
 use jp_table::Tables;
 use std::alloc::Global;
 
@@ -77,7 +77,7 @@ fn answer_run<F: Files>(
     ensures same { F.contents files.new ≡ F.contents files.old }
     ensures kept { NoneFalls (F.faults files.old) (F.faults files.new) }
     ensures sound { StaysSound (F.is_sound files.old) (F.is_sound files.new) (F.faults files.old) (F.faults files.new) }
-    ensures told { AgreesTold (λ v. v.items) result (F.contents files.old) (run_in catalogue.now statement.now) }
+    ensures told { PrintsTold result (F.contents files.old) (run_in catalogue.now statement.now) }
     ensures explained { IfErr result (IsExplained (MayBeRead (Some (spec.Run catalogue.now statement.now))) (F.faults files.old) (F.faults files.new)) }
 {
     let catalog = read_catalogue(alloc, files, catalogue)?;
@@ -158,7 +158,7 @@ fn answer_query<F: Files>(
     ensures same { F.contents files.new ≡ F.contents files.old }
     ensures kept { NoneFalls (F.faults files.old) (F.faults files.new) }
     ensures sound { StaysSound (F.is_sound files.old) (F.is_sound files.new) (F.faults files.old) (F.faults files.new) }
-    ensures told { AgreesTold (λ v. v.items) result (F.contents files.old) (λ held. query_in held statement.now catalog.now) }
+    ensures told { PrintsTold result (F.contents files.old) (λ held. query_in held statement.now catalog.now) }
     ensures explained { IfErr result (IsExplained (λ n. (n ≡ statement.now) ⊎ IsTableFile catalog.now n) (F.faults files.old) (F.faults files.new)) }
 {
     let stmt = read_statement(alloc, files, statement)?;
@@ -181,22 +181,33 @@ fn answer_resolved<F: Files>(
     ensures same { F.contents files.new ≡ F.contents files.old }
     ensures kept { NoneFalls (F.faults files.old) (F.faults files.new) }
     ensures sound { StaysSound (F.is_sound files.old) (F.is_sound files.new) (F.faults files.old) (F.faults files.new) }
-    ensures told { AgreesTold (λ v. v.items) result (F.contents files.old) (λ held. output_in held catalog.now query.now) }
+    ensures told { PrintsTold result (F.contents files.old) (λ held. output_in held catalog.now query.now) }
     ensures explained { IfErr result (IsExplained (IsTableFile catalog.now) (F.faults files.old) (F.faults files.new)) }
 {
     let tables = read_tables(alloc, files, catalog, query)?;
-    let bytes = print_meaning(alloc, query, &tables)?;
+    let bytes = print_rows(alloc, catalog, query, &tables)?;
     Ok(bytes)
 }
 
-/// The rows of a query over loaded tables, printed.
-fn print_meaning(alloc: Global, query: &Query, tables: &Tables) -> Result<Vec<u8>, Memory>
-    requires typed { IsTypedOver tables.now.list query.now }
+/// The rows that the plan of a query lists over loaded tables, printed.
+fn print_rows(
+    alloc: Global,
+    catalog: &Catalog,
+    query: &Query,
+    tables: &Tables,
+) -> Result<Vec<u8>, Memory>
+    requires sound { IsSound catalog.now }
+    requires typed { IsTyped (schema_of catalog.now) [] query.now }
+    requires bounded { IsBounded (schema_of catalog.now) [] query.now }
     requires fresh { IsFresh query.now }
-    requires loaded { AllLoaded tables.now.list query.now }
-    ensures { IfOk result (λ v. v.items ≡ printed query.now tables.now.list) }
+    requires belong { Belong (schema_of catalog.now) tables.now.list }
+    ensures { IfOk result (λ v. HasBytes (RowsOf catalog.now query.now tables.now.list) v.items) }
 {
-    let rows = meaning_of(alloc, query, tables)?;
+    plans_list_what_the_statement_means();
+    let copy = query.copy(alloc)?;
+    let prepared = prepare(alloc, catalog, copy)?;
+    prepared.pool.has_children_before();
+    let rows = run_query(alloc, &prepared, tables)?;
     let bytes = output_text(alloc, query.columns.as_slice(), rows.as_slice())?;
     Ok(bytes)
 }

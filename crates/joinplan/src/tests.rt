@@ -1,7 +1,7 @@
 ghost use Rattle.std.specs.Prelude.{◌≡◌, ◌≤◌, ◌<◌, ◌⊎◌, ◌++◌, ◌-◌, ◌^◌, ℕ, List, [], IfOk, Ok, length, map, string_bytes, true};
 ghost use Rattle.jp_io.specs.MemFiles.{fault_count, is_calm, told_files};
 ghost use Rattle.jp_io.specs.MemSink.{failing_calls, room_left, taken_bytes};
-ghost use Rattle.joinplan.specs.Answers.{Bytes, answer_of};
+ghost use Rattle.joinplan.specs.Answers.{HasBytes, Output, answer_of};
 
 use crate::joinplan;
 use jp_base::{Memory, Txt};
@@ -122,7 +122,7 @@ const ROWS: &[Row] = &[
         file: "",
         text: "",
         status: 0,
-        out: "id,id\n1,1\n1,2\n2,3\n3,\\N\n",
+        out: "id,id\n2,3\n1,1\n1,2\n3,\\N\n",
         err: "",
     },
     Row {
@@ -140,7 +140,7 @@ const ROWS: &[Row] = &[
         file: "",
         text: "",
         status: 0,
-        out: "id,id,z\n1,1,100\n1,2,\\N\n2,3,\\N\n3,\\N,\\N\n",
+        out: "id,id,z\n2,3,\\N\n1,1,100\n1,2,\\N\n3,\\N,\\N\n",
         err: "",
     },
     Row {
@@ -185,7 +185,7 @@ const ROWS: &[Row] = &[
         file: "",
         text: "",
         status: 0,
-        out: "id\n1\n1\n2\n",
+        out: "id\n2\n1\n1\n",
         err: "",
     },
     Row {
@@ -582,8 +582,8 @@ fn served(
     requires calm { is_calm files.old ≡ true }
     requires low { (name : List ℕ) → fault_count files.old name < 2 ^ 64 - 1 }
     requires calm_out { failing_calls out.old ≡ [] }
-    ensures { (bytes : List ℕ) → (answer_of (map string_bytes words.now) (told_files files.old)).answer ≡ Ok (Bytes bytes) → length bytes ≤ room_left out.old →
-        ((result ≡ 0) × (taken_bytes out.new ≡ taken_bytes out.old ++ bytes)) ⊎ (result ≡ 8) }
+    ensures { (output : Output) → (answer_of (map string_bytes words.now) (told_files files.old)).answer ≡ Ok output → ((bytes : List ℕ) → HasBytes output bytes → length bytes ≤ room_left out.old) →
+        ((bytes : List ℕ) × (result ≡ 0) × HasBytes output bytes × (taken_bytes out.new ≡ taken_bytes out.old ++ bytes)) ⊎ (result ≡ 8) }
 {
     joinplan(alloc, words, files, out, err)
 }

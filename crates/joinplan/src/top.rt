@@ -1,7 +1,7 @@
 ghost use Rattle.std.specs.Prelude.{◌≡◌, ◌≢◌, ◌≤◌, ◌↔◌, IfSome, None, map, string_bytes};
 ghost use Rattle.jp_io.specs.Files.{NoneFalls, StaysSound};
 ghost use Rattle.jp_io.specs.Sinks.{Rose};
-ghost use Rattle.joinplan.specs.Headline.{PrintsAnswer, PrintsInOrder};
+ghost use Rattle.joinplan.specs.Headline.{IsAnswerTo, IsListedAnswer, IsOrderedAnswer, PrintsSuch};
 ghost use Rattle.joinplan.specs.Outcomes.{ComesExactly, FaultIn, IsComplete, IsReported, IsSurelyServed, RoomServes, WroteAll, WrotePart, answer_told};
 ghost use Rattle.joinplan.specs.Words.{command_of};
 
@@ -32,9 +32,11 @@ pub fn joinplan<F: Files, O: Sink, E: Sink>(
     ensures complete { IfSome (answer_told (map string_bytes words.now) (F.contents files.old)) (λ answer. IsComplete answer result (F.faults files.old) (F.faults files.new) (O.faults out.old) (O.faults out.new) (O.taken out.old) (O.taken out.new)) }
     ensures surely { IfSome (answer_told (map string_bytes words.now) (F.contents files.old)) (λ answer. IsSurelyServed (F.is_sound files.old) (F.faults files.old) (O.room out.old) answer result (O.taken out.old) (O.taken out.new)) }
 
-    // What the sinks took: of a status 0, where the contents of the files are told, the statement's meaning.
-    ensures headline { result ≡ 0 → PrintsAnswer (F.contents files.old) (map string_bytes words.now) (O.taken out.old) (O.taken out.new) }
-    ensures order { result ≡ 0 → PrintsInOrder (F.contents files.old) (map string_bytes words.now) (O.taken out.old) (O.taken out.new) }
+    // What the sinks took: of a status 0, where the contents of the files are told, the statement's meaning, in its order, as its
+    // plan lists it.
+    ensures headline { result ≡ 0 → PrintsSuch IsAnswerTo (F.contents files.old) (map string_bytes words.now) (O.taken out.old) (O.taken out.new) }
+    ensures order { result ≡ 0 → PrintsSuch IsOrderedAnswer (F.contents files.old) (map string_bytes words.now) (O.taken out.old) (O.taken out.new) }
+    ensures plan { result ≡ 0 → PrintsSuch IsListedAnswer (F.contents files.old) (map string_bytes words.now) (O.taken out.old) (O.taken out.new) }
     ensures printed { result ≡ 0 → WroteAll (answer_told (map string_bytes words.now) (F.contents files.old)) (O.taken out.old) (O.taken out.new) }
     ensures prefix { result ≡ 7 → WrotePart (answer_told (map string_bytes words.now) (F.contents files.old)) (O.taken out.old) (O.taken out.new) }
     ensures untouched { result ≢ 0 → result ≢ 7 → out.new ≡ out.old }

@@ -6,6 +6,7 @@ mod lines;
 mod numbers;
 mod params;
 mod rows;
+mod scene;
 mod sight;
 
 pub use layout::Layout;
@@ -13,4 +14,5 @@ pub use lines::Lines;
 pub use numbers::Numbers;
 pub use params::{Around, Params};
 pub use rows::{ItemRows, RelRows, Source, has_relation};
+pub use scene::{Scene, SceneStep, is_listed, lent_scene};
 pub use sight::Sight;

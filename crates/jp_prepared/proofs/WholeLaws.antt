@@ -1,5 +1,5 @@
 -- The parts of a prepared statement together.
-use Rattle.std.proofs.Common.{◌≡◌, [], map}
+use Rattle.std.proofs.Common.{◌≡◌, [], map, refl}
 use Rattle.jp_facts.proofs.Members.{In, from_in}
 use Rattle.jp_query.specs.Freshness.{IsFresh, Sublink, sublinks_in}
 use Rattle.jp_tree.specs.Prepared.{IsWhole}
@@ -77,3 +77,9 @@ whole catalog query prepared sound handed typed bounded fresh fresh_folded no_ri
   where
     one_node : (q : Query) → IsFresh q → (a b : Sublink) → In a (sublinks_in q) → In b (sublinks_in q) → a.number ≡ b.number → a.node ≡ b.node
     one_node q fresh a b m k same = fresh.equal a b (from_in a (sublinks_in q) m) (from_in b (sublinks_in q) k) same
+
+-- its expressions are typed over the schema of the catalogue
+pub whole_schema : (catalog : Catalog) (query : Query) (prepared : Prepared) (sound : IsSound catalog) (handed : IsTyped (schema_of catalog) [] query) (typed : IsTyped (schema_of catalog) [] (folded query)) (bounded : IsBounded (schema_of catalog) [] (folded query)) (fresh : IsFresh query) (fresh_folded : IsFresh (folded query)) (no_right : HasNoRight (folded query))
+    (is : IsPrepared catalog query prepared) → (whole catalog query prepared sound handed typed bounded fresh fresh_folded no_right is).schema ≡ schema_of catalog
+unfolding whole
+whole_schema catalog query prepared sound handed typed bounded fresh fresh_folded no_right is = refl

@@ -4,6 +4,7 @@ pub mod ItemLaws
 pub mod NameLaws
 pub mod NextLaws
 pub mod OuterLevels
+pub mod OutsideLaws
 pub mod PartLaws
 pub mod Places
 pub mod PlanLaws

@@ -5,6 +5,7 @@ pub mod Items
 pub mod Names
 pub mod Output
 pub mod Parts
+pub mod Running
 pub mod Turned
 pub mod Visits
 pub mod Weights

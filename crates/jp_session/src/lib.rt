@@ -1,4 +1,5 @@
-//! What a session gives: the prepared statement of a query, and the text of the rows that a statement stands for.
+//! What a session gives: the prepared statement of a query, the rows that it lists over tables, the text of its plan, and the
+//! text of rows.
 #![tactic(auto)]
 
 mod blocks;
@@ -10,8 +11,10 @@ mod names;
 mod output;
 mod preparing;
 mod prices;
+mod running;
 mod sources;
 
 pub use explaining::explain_query;
 pub use output::output_text;
 pub use preparing::prepare;
+pub use running::run_query;

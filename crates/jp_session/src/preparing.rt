@@ -4,8 +4,10 @@ ghost use Rattle.jp_prepared.specs.Planned.{IsPrepared};
 ghost use Rattle.jp_query.specs.Conditions.{IsBounded, IsTyped};
 ghost use Rattle.jp_query.specs.Freshness.{IsFresh};
 ghost use Rattle.jp_query.specs.NoRight.{HasNoRight};
+ghost use Rattle.jp_query.specs.Tables.{TableRows, Belong};
 ghost use Rattle.jp_resolution.specs.Schemas.{schema_of};
 ghost use Rattle.jp_session.specs.Blocks.{IsBlockList};
+ghost use Rattle.jp_session.specs.Running.{CanRunStatement};
 ghost use Rattle.jp_session.specs.Turned.{turned};
 ghost use Rattle.jp_tree.specs.Prepared.{IsWhole};
 ghost use Rattle.jp_tree.specs.declared.prepared.Block.{Block as ABlock};
@@ -34,6 +36,7 @@ pub fn prepare(alloc: Global, catalog: &Catalog, query: Query) -> Result<Prepare
     requires fresh { IsFresh query }
     ensures prepared { IfOk result (λ prepared. IsPrepared catalog.now query prepared) }
     ensures whole { IfOk result IsWhole }
+    ensures runs { IfOk result (λ prepared. (tables : TableRows) → Belong (schema_of catalog.now) tables → CanRunStatement prepared tables) }
 {
     a_prepared_statement_is_whole();
     folding_keeps_typed_queries();

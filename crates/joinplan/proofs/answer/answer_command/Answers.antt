@@ -4,11 +4,6 @@ use Rattle.joinplan.specs.Views.{command_view}
 use Rattle.joinplan.proofs.ReadingLemmas.{told_as_output}
 use Rattle.joinplan.proofs.answer.answer_command.Goals as goal
 
-pub returns-in-Run-clause-told : goal.returns-in-Run-clause-told
-returns-in-Run-clause-told g c =
-    let contents = g.F.Files.contents c.args.files.now in
-    subst (λ x. PrintsTold c.answer_run.result contents (command_in (command_view x))) (sym c.in-Run.is) (told_as_output contents _ c.answer_run.result c.answer_run.ensures.told)
-
 pub returns-in-Check-clause-told : goal.returns-in-Check-clause-told
 returns-in-Check-clause-told g c =
     let contents = g.F.Files.contents c.args.files.now in

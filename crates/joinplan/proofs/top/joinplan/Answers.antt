@@ -2,9 +2,10 @@ use Rattle.std.proofs.Common.{map, subst, sym}
 use Rattle.std.specs.Prelude.{string_bytes}
 use Rattle.jp_io.specs.Sinks.{TookMore}
 use Rattle.joinplan.specs.declared.refusal.Refusal.TheVariants as refusal
+use Rattle.joinplan.specs.Headline.{IsAnswerTo, IsListedAnswer, IsOrderedAnswer}
 use Rattle.joinplan.specs.Outcomes.{IsOutput, answer_told}
 use Rattle.joinplan.specs.Words.{command_of}
-use Rattle.joinplan.proofs.HeadlineLemmas.{prints_answer, prints_in_order}
+use Rattle.joinplan.proofs.HeadlineLemmas.{prints_such, words_answer, words_listed, words_ordered}
 use Rattle.joinplan.proofs.OutcomeLemmas.{counted, no_write, output_told, refusal_told, said, write_cause, wrote_part}
 use Rattle.joinplan.proofs.SureLemmas.{refused_complete, refused_surely}
 use Rattle.joinplan.proofs.top.joinplan.Goals as goal
@@ -33,13 +34,19 @@ pub returns-in-Ok-write_all-clause-headline : goal.returns-in-Ok-write_all-claus
 returns-in-Ok-write_all-clause-headline g c = λ _.
     let words = map string_bytes c.args.words.now in
     let contents = g.F.Files.contents c.args.files.now in
-    prints_answer c.each_source_is_cut_as_answered.ensures.answer words contents (g.O.Sink.taken c.args.out.now) (g.O.Sink.taken c.write_all.new.sink) c.in-Ok.bytes c.in-Ok.ensures.told (subst (λ bytes. TookMore (g.O.Sink.taken c.args.out.now) bytes (g.O.Sink.taken c.write_all.new.sink)) c.as_slice.ensures.value c.in-Ok-write_all.ensures.all)
+    prints_such IsAnswerTo (words_answer c.each_source_is_cut_as_answered.ensures.answer) words contents (g.O.Sink.taken c.args.out.now) (g.O.Sink.taken c.write_all.new.sink) c.in-Ok.bytes c.in-Ok.ensures.told (subst (λ bytes. TookMore (g.O.Sink.taken c.args.out.now) bytes (g.O.Sink.taken c.write_all.new.sink)) c.as_slice.ensures.value c.in-Ok-write_all.ensures.all)
 
 pub returns-in-Ok-write_all-clause-order : goal.returns-in-Ok-write_all-clause-order
 returns-in-Ok-write_all-clause-order g c = λ _.
     let words = map string_bytes c.args.words.now in
     let contents = g.F.Files.contents c.args.files.now in
-    prints_in_order c.each_source_is_cut_as_answered.ensures.answer words contents (g.O.Sink.taken c.args.out.now) (g.O.Sink.taken c.write_all.new.sink) c.in-Ok.bytes c.in-Ok.ensures.told (subst (λ bytes. TookMore (g.O.Sink.taken c.args.out.now) bytes (g.O.Sink.taken c.write_all.new.sink)) c.as_slice.ensures.value c.in-Ok-write_all.ensures.all)
+    prints_such IsOrderedAnswer (words_ordered c.each_source_is_cut_as_answered.ensures.answer) words contents (g.O.Sink.taken c.args.out.now) (g.O.Sink.taken c.write_all.new.sink) c.in-Ok.bytes c.in-Ok.ensures.told (subst (λ bytes. TookMore (g.O.Sink.taken c.args.out.now) bytes (g.O.Sink.taken c.write_all.new.sink)) c.as_slice.ensures.value c.in-Ok-write_all.ensures.all)
+
+pub returns-in-Ok-write_all-clause-plan : goal.returns-in-Ok-write_all-clause-plan
+returns-in-Ok-write_all-clause-plan g c = λ _.
+    let words = map string_bytes c.args.words.now in
+    let contents = g.F.Files.contents c.args.files.now in
+    prints_such IsListedAnswer (words_listed c.each_source_is_cut_as_answered.ensures.answer) words contents (g.O.Sink.taken c.args.out.now) (g.O.Sink.taken c.write_all.new.sink) c.in-Ok.bytes c.in-Ok.ensures.told (subst (λ bytes. TookMore (g.O.Sink.taken c.args.out.now) bytes (g.O.Sink.taken c.write_all.new.sink)) c.as_slice.ensures.value c.in-Ok-write_all.ensures.all)
 
 pub returns-clause-line : goal.returns-clause-line
 returns-clause-line g c = λ _.

@@ -3,8 +3,10 @@ use Rattle.jp_folding.proofs.NoRightLaws.{query_has_none}
 use Rattle.jp_query.specs.Conditions.{IsTyped}
 use Rattle.jp_query.specs.Freshness.{IsFresh}
 use Rattle.jp_query.specs.NoRight.{HasNoRight}
+use Rattle.jp_query.specs.Tables.{Belong}
 use Rattle.jp_resolution.specs.Schemas.{schema_of}
 use Rattle.jp_session.specs.Blocks.{IsBlockList}
+use Rattle.jp_prepared.proofs.WholeLaws.{whole, whole_schema}
 use Rattle.jp_session.proofs.PreparedLaws.{is_prepared}
 use Rattle.jp_tree.specs.declared.prepared.Prepared.{Prepared}
 use Rattle.jp_session.proofs.preparing.prepare.Goals as goal
@@ -26,3 +28,21 @@ returns-clause-whole c =
     let prepared : Prepared = record { blocks = list.blocks; pool = list.pool; names = c.in_ok-names.names } in
     let blocks = subst (λ q. IsBlockList catalog q list.blocks list.pool.nodes) (c.in_ok-new.ensures ∙ c.in_ok-query.ensures) c.in_ok-list.ensures in
     c.a_prepared_statement_is_whole.ensures catalog c.args.query prepared c.requires.sound c.requires.typed c.requires.bounded c.requires.fresh (is_prepared catalog c.args.query prepared blocks c.in_ok-names.ensures)
+
+pub returns-clause-runs : goal.returns-clause-runs
+returns-clause-runs c = λ tables belong.
+    let catalog = c.args.catalog.now in
+    let query = c.args.query in
+    let schema = schema_of catalog in
+    let list = c.in_ok-list.list in
+    let prepared : Prepared = record { blocks = list.blocks; pool = list.pool; names = c.in_ok-names.names } in
+    let blocks = subst (λ q. IsBlockList catalog q list.blocks list.pool.nodes) (c.in_ok-new.ensures ∙ c.in_ok-query.ensures) c.in_ok-list.ensures in
+    let is = is_prepared catalog query prepared blocks c.in_ok-names.ensures in
+    let folding = c.folding_keeps_typed_queries.ensures in
+    let typed = folding.typed schema [] query c.requires.typed in
+    let bounded = folding.bounded schema [] query c.requires.typed c.requires.bounded in
+    let fresh = c.folding_keeps_fresh_queries.ensures query c.requires.fresh in
+    record {
+      whole = whole catalog query prepared c.requires.sound c.requires.typed typed bounded c.requires.fresh fresh (query_has_none query) is;
+      belong = subst (λ s. Belong s tables) (sym (whole_schema catalog query prepared c.requires.sound c.requires.typed typed bounded c.requires.fresh fresh (query_has_none query) is)) belong;
+    }

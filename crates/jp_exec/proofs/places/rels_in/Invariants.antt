@@ -1,0 +1,7 @@
+use Rattle.std.proofs.Common.{◌≡◌, ◌<◌, ◌^◌, map, take}
+use Rattle.jp_query.specs.Refs.{union}
+use Rattle.jp_problem.specs.Problems.{rels_of_item}
+use Rattle.jp_exec.proofs.places.rels_in.Given as goal
+
+abbrev pub invariant-items : goal.invariant-items
+invariant-items l = (l.rels ≡ union (map rels_of_item (take l.item-index l.items))) × (l.rels < 2 ^ 64)

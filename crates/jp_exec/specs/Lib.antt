@@ -1,0 +1,4 @@
+pub mod Cells
+pub mod Columns
+pub mod Interiors
+pub mod Running

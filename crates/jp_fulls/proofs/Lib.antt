@@ -1,0 +1,4 @@
+pub mod FullFacts
+pub mod ItemFacts
+pub mod LeafFacts
+pub mod SideFacts

@@ -1,0 +1,3 @@
+pub mod Fulls
+pub mod Leaves
+pub mod Sides

@@ -1,0 +1,4 @@
+pub mod NumberFacts
+pub mod PlaceLaws
+pub mod SceneFacts
+pub mod ValueFacts

@@ -1,0 +1,12 @@
+//! The rows that a block makes of its tuples, and the sublinks and columns in its expressions.
+#![tactic(auto)]
+
+mod columns;
+mod exprs;
+mod rows;
+mod sublinks;
+mod values;
+
+pub use columns::columns_from;
+pub use rows::block_rows;
+pub use sublinks::sublinks_of;

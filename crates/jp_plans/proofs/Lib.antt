@@ -1,0 +1,4 @@
+pub mod KeyFacts
+pub mod OperatorFacts
+pub mod RowFacts
+pub mod SceneFacts
