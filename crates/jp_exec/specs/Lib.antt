@@ -1,4 +1,5 @@
 pub mod Cells
 pub mod Columns
+pub mod Given
 pub mod Interiors
 pub mod Running

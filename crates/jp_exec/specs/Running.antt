@@ -1,6 +1,6 @@
 -- What it takes to run a block.
 use Rattle.std.specs.Prelude.{◌≡◌, ℕ, ◌<◌, List, length, map}
-use Rattle.jp_query.specs.Meaning.{Row, Env}
+use Rattle.jp_query.specs.Meaning.{Env}
 use Rattle.jp_query.specs.Tables.{TableRows, Belong, rows_of_tables}
 use Rattle.jp_tree.specs.declared.prepared.Block.{Block}
 use Rattle.jp_tree.specs.declared.prepared.Prepared.{Prepared}

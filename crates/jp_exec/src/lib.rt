@@ -2,8 +2,10 @@
 #![tactic(auto)]
 
 mod cells;
+mod closed;
 mod columns;
 mod execution;
+mod given;
 mod interior;
 mod places;
 

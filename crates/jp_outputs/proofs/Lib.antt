@@ -2,3 +2,4 @@ pub mod NumberFacts
 pub mod PlaceLaws
 pub mod SceneFacts
 pub mod ValueFacts
+pub mod WithinLaws

@@ -1,3 +1,4 @@
 pub mod Columns
 pub mod Exprs
 pub mod Values
+pub mod Within
