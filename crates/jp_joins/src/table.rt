@@ -27,7 +27,7 @@ pub fn table_of<'k, 't, E: TupleEnv>(
     let mut table = HashMap::with_capacity(alloc, tuples.len())?;
     'tuples: for at in 0..tuples.len() {
         let key = key_of(key_cell(env, side, tuples, made, at));
-        add(alloc, &mut table, key, tuples[at])?;
+        add_by_key(alloc, &mut table, key, tuples[at])?;
     }
     Ok(table)
 }
@@ -46,13 +46,13 @@ pub fn places_of<'k, E: TupleEnv>(
     let mut table = HashMap::with_capacity(alloc, tuples.len())?;
     'tuples: for at in 0..tuples.len() {
         let key = key_of(key_cell(env, side, tuples, made, at));
-        add(alloc, &mut table, key, at)?;
+        add_by_key(alloc, &mut table, key, at)?;
     }
     Ok(table)
 }
 
-/// Puts the value behind those with the key; NULL has none.
-fn add<'k, T: Copy>(
+/// Puts the value behind those with the key; NULL has none, so nothing is listed for it. The one error is want of memory.
+pub fn add_by_key<'k, T: Copy>(
     alloc: Global,
     table: &mut HashMap<Key<'k>, Listed<T>>,
     key: Option<Key<'k>>,
@@ -107,13 +107,16 @@ pub fn lists_at<'k, 'x, E: TupleEnv, T>(
     let mut lists = Vec::with_capacity(alloc, tuples.len())?;
     'tuples: for at in 0..tuples.len() {
         let key = key_of(key_cell(env, side, tuples, made, at));
-        lists.push(list_at(table, &key))?;
+        lists.push(list_by_key(table, &key))?;
     }
     Ok(lists)
 }
 
-/// What the table lists at the key; NULL has none.
-fn list_at<'k, 'x, T>(table: &'x HashMap<Key<'k>, Listed<T>>, key: &Option<Key<'k>>) -> &'x [T]
+/// What the table lists at the key, in the order in which it came; NULL has none.
+pub fn list_by_key<'k, 'x, T>(
+    table: &'x HashMap<Key<'k>, Listed<T>>,
+    key: &Option<Key<'k>>,
+) -> &'x [T]
     requires { FitsInMemory T.row }
     ensures { result.now ≡ table_at table.now (value_of_some key.now) }
 {

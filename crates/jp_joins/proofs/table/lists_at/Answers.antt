@@ -8,5 +8,5 @@ pub tuples-preserved : goal.tuples-preserved
 tuples-preserved g c =
     let meant = g.E.TupleEnv.meant c.args.env.now in
     ap lists_of c.in_ok-push.ensures.items
-    ∙ list_more meant c.args.side.now (table_at c.args.table.now) c.args.tuples.now c.tuples.at no_tuple c.tuples.lists.items c.list_at.result c.tuples-test.true c.tuples.invariant
-    (c.list_at.ensures ∙ ap (table_at c.args.table.now) (c.key_of-key.ensures ∙ c.key_cell.ensures ∙ value_of_map meant c.args.side.now c.args.tuples.now c.tuples.at no_tuple c.tuples-test.true))
+    ∙ list_more meant c.args.side.now (table_at c.args.table.now) c.args.tuples.now c.tuples.at no_tuple c.tuples.lists.items c.list_by_key.result c.tuples-test.true c.tuples.invariant
+    (c.list_by_key.ensures ∙ ap (table_at c.args.table.now) (c.key_of-key.ensures ∙ c.key_cell.ensures ∙ value_of_map meant c.args.side.now c.args.tuples.now c.tuples.at no_tuple c.tuples-test.true))

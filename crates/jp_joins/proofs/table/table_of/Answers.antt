@@ -9,4 +9,4 @@ tuples-preserved g c v =
     let meant = g.E.TupleEnv.meant c.args.env.now in
     listed_more meant c.args.side.now c.args.tuples.now c.tuples.at _ (value_of_some c.key_of-key.result) v _ _ c.tuples-test.true
     (c.key_of-key.ensures ∙ c.key_cell.ensures ∙ value_of_map meant c.args.side.now c.args.tuples.now c.tuples.at _ c.tuples-test.true)
-    (c.tuples.invariant v) (c.in_ok-add.ensures v)
+    (c.tuples.invariant v) (c.in_ok-add_by_key.ensures v)
