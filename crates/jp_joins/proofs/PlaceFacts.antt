@@ -1,4 +1,4 @@
--- The places of the maps that pass a test.
+-- The places of what passes a test, of maps above all.
 use Rattle.std.proofs.Common.{◌≡◌, ◌∙◌, ap, sym, subst, refl, ℕ, zero, suc, ◌+◌, ◌<◌, ◌||◌, Bool, true, false, cond, List, [], ◌∷◌, ◌++◌, filter, length, get_or, take, arith, append_assoc}
 use Rattle.std.specs.Prelude.{All, nat_eq}
 use Rattle.std.specs.List.{list_any}
@@ -10,16 +10,17 @@ use Rattle.jp_joins.specs.Keys.{map_at, maps_at, once_if, places_where}
 use Rattle.jp_joins.specs.Tuples.{map_of, maps_of}
 use Rattle.jp_joins.specs.declared.tuples.Tuple.{Tuple}
 
-module _ (p : Map → Bool) where
-  places_snoc : (i : ℕ) (ms : List Map) (m : Map) → places_where p i (ms ++ m ∷ []) ≡ places_where p i ms ++ once_if (p m) (i + length ms)
-  places_snoc i [] m = alone (p m)
+module _ {X : Type 0} (p : X → Bool) where
+  pub places_snoc : (i : ℕ) (xs : List X) (x : X) → places_where p i (xs ++ x ∷ []) ≡ places_where p i xs ++ once_if (p x) (i + length xs)
+  places_snoc i [] x = alone (p x)
     where
       alone : (b : Bool) → once_if b i ++ [] ≡ once_if b (i + 0)
       alone true = ap (λ k. k ∷ []) (omega arith)
       alone false = refl
-  places_snoc i (x ∷ ms) m = ap (λ ks. once_if (p x) i ++ ks) (places_snoc (suc i) ms m ∙ ap (λ k. places_where p (suc i) ms ++ once_if (p m) k) (omega arith))
-      ∙ sym (append_assoc (once_if (p x) i) (places_where p (suc i) ms) (once_if (p m) (i + suc (length ms))))
+  places_snoc i (y ∷ xs) x = ap (λ ks. once_if (p y) i ++ ks) (places_snoc (suc i) xs x ∙ ap (λ k. places_where p (suc i) xs ++ once_if (p x) k) (omega arith))
+      ∙ sym (append_assoc (once_if (p y) i) (places_where p (suc i) xs) (once_if (p x) (i + suc (length xs))))
 
+module _ (p : Map → Bool) where
   -- one more tuple
   pub places_more : (ts : List Tuple) (i : ℕ) (d : Tuple) (before now : List ℕ) → i < length ts → before ≡ places_where p 0 (maps_of (take i ts)) → now ≡ before ++ once_if (p (map_of (get_or ts i d))) i
       → now ≡ places_where p 0 (maps_of (take (i + 1) ts))
@@ -28,7 +29,7 @@ module _ (p : Map → Bool) where
       let at : i ≡ 0 + length (maps_of (take i ts)) = omega (arith, long) in
       f ∙ ap (λ ks. ks ++ once_if (p (map_of (get_or ts i d))) i) e
       ∙ ap (λ k. places_where p 0 (maps_of (take i ts)) ++ once_if (p (map_of (get_or ts i d))) k) at
-      ∙ sym (places_snoc 0 (maps_of (take i ts)) (map_of (get_or ts i d)))
+      ∙ sym (places_snoc p 0 (maps_of (take i ts)) (map_of (get_or ts i d)))
       ∙ ap (places_where p 0) (sym (ap maps_of (take_more ts i d h) ∙ map-append map_of (take i ts) (get_or ts i d ∷ [])))
 
   -- they lie below the length

@@ -69,10 +69,10 @@ abbrev pub once_if : {X : Type 0} → Bool → X → List X
 once_if true x = x ∷ []
 once_if false x = []
 
--- the places of the maps that pass a test, where the first map has the place i
-abbrev pub places_where : (Map → Bool) → ℕ → List Map → List ℕ
+-- the places of what passes a test, where the first of the list has the place i
+abbrev pub places_where : {X : Type 0} → (X → Bool) → ℕ → List X → List ℕ
 places_where p i [] = []
-places_where p i (m ∷ maps) = once_if (p m) i ++ places_where p (suc i) maps
+places_where p i (x ∷ xs) = once_if (p x) i ++ places_where p (suc i) xs
 
 -- the maps at places
 abbrev pub map_at : List Map → ℕ → Map
