@@ -1,4 +1,5 @@
 pub mod KeyFacts
+pub mod LookupFacts
 pub mod OperatorFacts
 pub mod RowFacts
 pub mod SceneFacts

@@ -1,7 +1,7 @@
 -- The maps of the rows of an item.
-use Rattle.std.proofs.Common.{◌≡◌, ◌∙◌, ap, ap₂, sym, refl, ℕ, zero, suc, ◌+◌, ◌<◌, List, [], ◌∷◌, ◌++◌, length, Option, Some, None, arith}
+use Rattle.std.proofs.Common.{◌≡◌, ◌∙◌, ap, ap₂, sym, refl, ℕ, zero, suc, ◌+◌, ◌<◌, List, [], ◌∷◌, ◌++◌, length, get_or, take, map, Option, Some, None, arith}
 use Rattle.std.specs.Prelude.{All, slice_set}
-use Rattle.std.proofs.lemmas.List.{length-set, map-append}
+use Rattle.std.proofs.lemmas.List.{length-set, map-append, take_more}
 use Rattle.jp_frame.specs.Maps.{Map}
 use Rattle.jp_frame.specs.Methods.{none_row, one_row, rows_of_item}
 use Rattle.jp_induction.proofs.EachPart.{Each, all_of_each}
@@ -22,7 +22,7 @@ length_none : (n : ℕ) → length (none_row n) ≡ n
 length_none zero = refl
 length_none (suc n) = ap suc (length_none n)
 
-length_one : (n i r : ℕ) → length (one_row n i r) ≡ n
+pub length_one : (n i r : ℕ) → length (one_row n i r) ≡ n
 length_one zero i r = refl
 length_one (suc n) zero r = ap suc (length_none n)
 length_one (suc n) (suc i) r = ap suc (length_one n i r)
@@ -72,7 +72,14 @@ tuple_more before now t n i k pushed are is =
     ∙ ap (λ x. rows_of_item n i 0 k ++ one_row n i x ∷ []) (let e : k ≡ 0 + k = omega arith in e)
     ∙ sym (rows_after n i 0 k) ∙ ap (rows_of_item n i 0) (next k)
 
-each_wide : (n i r k : ℕ) → Each (λ m. length m ≡ n) (rows_of_item n i r k)
+-- the tuple of one number more
+pub number_more : (before now : List Tuple) (t : Tuple) (n i : ℕ) (numbers : List ℕ) (k d : ℕ) → k < length numbers → now ≡ before ++ t ∷ [] → maps_of before ≡ map (one_row n i) (take k numbers) → map_of t ≡ one_row n i (get_or numbers k d)
+    → maps_of now ≡ map (one_row n i) (take (k + 1) numbers)
+number_more before now t n i numbers k d low pushed are is =
+    ap maps_of pushed ∙ map-append map_of before (t ∷ []) ∙ ap₂ (λ ms m. ms ++ m ∷ []) are is
+    ∙ sym (ap (map (one_row n i)) (take_more numbers k d low) ∙ map-append (one_row n i) (take k numbers) (get_or numbers k d ∷ []))
+
+pub each_wide : (n i r k : ℕ) → Each (λ m. length m ≡ n) (rows_of_item n i r k)
 each_wide n i r zero = tt
 each_wide n i r (suc k) = (length_one n i r, each_wide n i (suc r) k)
 

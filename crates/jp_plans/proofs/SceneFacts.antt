@@ -47,9 +47,9 @@ use Rattle.jp_items.specs.Sights.{sight_env, sources_in}
 use Rattle.jp_items.specs.declared.scene.Scene.{Scene}
 use Rattle.jp_joins.specs.Tuples.{maps_of}
 use Rattle.jp_plans.specs.Known.{CanRun, known_scan, known_step}
+use Rattle.jp_plans.specs.Lookups.{AreEnough, item_maps}
 use Rattle.jp_plans.specs.Operators.{IsPart}
 use Rattle.jp_plans.specs.declared.steps.Part.{Part}
-use Rattle.jp_plans.proofs.RowFacts.{rows_wide}
 
 all_weaker : {X : Type 0} (P Q : X → Type 0) → ((x : X) → P x → Q x) → (xs : List X) → All P xs → All Q xs
 all_weaker P Q w xs h = λ k d low. w _ (h k d low)
@@ -87,20 +87,14 @@ empty_list [] e = refl
 empty_list (x ∷ xs) e = let none : length (x ∷ xs) ≡ 0 = eqb-true (length (x ∷ xs)) 0 (sym e) in absurd (omega (arith, none))
 
 -- without conditions each map is kept
-none_tested : (run : Run) (maps : List Map) → filter (run_holds run []) maps ≡ maps
-none_tested run [] = refl
-none_tested run (m ∷ maps) = ap (λ ms. m ∷ ms) (none_tested run maps)
-
--- the maps of all rows of an item
-abbrev pub item_maps : Scene → Problem → ℕ → List Map
-item_maps scene problem item = rows_of_item (length problem.items) item 0 (length (source_at (sources_in scene.sight) item))
+none_tested : (meant : Meant) (maps : List Map) → filter (list_holds meant []) maps ≡ maps
+unfolding list_holds
+none_tested meant [] = refl
+none_tested meant (m ∷ maps) = ap (λ ms. m ∷ ms) (none_tested meant maps)
 
 pub item_listed : (scene : Scene) (problem : Problem) (item : ℕ) (maps : List Map) (items count : ℕ) → maps ≡ rows_of_item items item 0 count → items ≡ length problem.items → count ≡ length (source_at (sources_in scene.sight) item)
     → maps ≡ item_maps scene problem item
 item_listed scene problem item maps items count are few many = are ∙ (λ i. rows_of_item (few i) item 0 (many i))
-
-pub untested_scan : (scene : Scene) (problem : Problem) (item : ℕ) (maps : List Map) → maps ≡ item_maps scene problem item → scan_clauses problem item ≡ [] → maps ≡ scan_list (run_of scene) problem item
-untested_scan scene problem item maps are none = are ∙ sym (ap (λ clauses. filter (run_holds (run_of scene) clauses) (item_maps scene problem item)) none ∙ none_tested (run_of scene) (item_maps scene problem item))
 
 -- a scan of the scene, and the clauses that are tested at it
 pub scan_meant : (scene other : Scene) (problem : Problem) (item : ℕ) (clauses : List Expr) → other ≡ scene → clauses ≡ scan_clauses problem item
@@ -154,16 +148,16 @@ module _ (scene : Scene) (block : Block) (is : IsScene scene block) where
     can_test : (m : Map) → CanTest (known_scan scene problem item) m
     can_test m = record { key = all_none (CanEvaluateAt (known_scan scene problem item) m); on = all_none (CanEvaluateAt (known_scan scene problem item) m); filters = evaluated m }
 
-    pub can_scan : (number : ℕ) → CanJoin (known_scan scene problem item) (step.By number) rows []
-    can_scan number = record {
+    pub can_scan : (maps : List Map) → AreEnough scene problem item maps → (number : ℕ) → CanJoin (known_scan scene problem item) (step.By number) maps []
+    can_scan maps enough number = record {
       kind = (λ e. absurd (inner_not_left e), λ e. absurd (by_not_inner number e));
       width = length problem.items;
-      left_width = rows_wide (length problem.items) item 0 (length (source_at run.sources item));
+      left_width = enough.wide;
       right_width = all_none (λ (b : Map). length b ≡ length problem.items);
-      apart = all_anyway (λ a. All (AreApart a) []) (λ a. all_none (AreApart a)) rows;
-      left_test = all_anyway (CanTest (known_scan scene problem item)) can_test rows;
+      apart = all_anyway (λ a. All (AreApart a) []) (λ a. all_none (AreApart a)) maps;
+      left_test = all_anyway (CanTest (known_scan scene problem item)) can_test maps;
       right_test = all_none (CanTest (known_scan scene problem item));
-      pair_test = all_anyway (λ a. All (λ b. CanTest (known_scan scene problem item) (both a b)) []) (λ a. all_none (λ b. CanTest (known_scan scene problem item) (both a b))) rows;
+      pair_test = all_anyway (λ a. All (λ b. CanTest (known_scan scene problem item) (both a b)) []) (λ a. all_none (λ b. CanTest (known_scan scene problem item) (both a b))) maps;
       on_booleans = all_none IsBoolean;
       filter_booleans = all_weaker (IsTested run []) IsBoolean (λ e t. t.boolean) clauses (tested []);
     }
@@ -172,8 +166,15 @@ module _ (scene : Scene) (block : Block) (is : IsScene scene block) where
     unfolding list_holds
     tests_same = fun_ext (λ m. asked_conditions (rows_known scene m) (rows_listed scene m) clauses (sight_env scene.sight m) (alike_all m clauses (scan_own block item)))
 
-    pub scan_is : plain_list (known_scan scene problem item) rows [] ≡ scan_list run problem item
-    scan_is = ap (filter (list_holds (known_scan scene problem item) clauses)) (gives_itself (is_match (known_scan scene problem item)) rows) ∙ ap (λ test. filter test rows) tests_same
+    -- what makes the clauses true of maps that are enough
+    kept_is : (maps : List Map) → AreEnough scene problem item maps → filter (list_holds (known_scan scene problem item) clauses) maps ≡ scan_list run problem item
+    kept_is maps enough = enough.kept ∙ ap (λ test. filter test rows) tests_same
+
+    pub scan_is : (maps : List Map) → AreEnough scene problem item maps → plain_list (known_scan scene problem item) maps [] ≡ scan_list run problem item
+    scan_is maps enough = ap (filter (list_holds (known_scan scene problem item) clauses)) (gives_itself (is_match (known_scan scene problem item)) maps) ∙ kept_is maps enough
+
+    pub untested_scan : (maps : List Map) → AreEnough scene problem item maps → clauses ≡ [] → maps ≡ scan_list run problem item
+    untested_scan maps enough none = sym (ap (λ conds. filter (list_holds (known_scan scene problem item) conds) maps) none ∙ none_tested (known_scan scene problem item) maps) ∙ kept_is maps enough
 
   -- ---- steps
 

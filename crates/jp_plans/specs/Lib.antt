@@ -1,3 +1,4 @@
 pub mod KeyWords
 pub mod Known
+pub mod Lookups
 pub mod Operators

@@ -21,7 +21,10 @@ do_one-requires g c =
           c.requires.gives,
           (
             c.requires.scene,
-            next_can problem t c.requires.legal (run_of c.args.scene.now) c.args.operators.now c.operators.operator-index _ c.operators.parts.items c.operators-test.true c.operators.invariant,
+            (
+              c.requires.indexes,
+              next_can problem t c.requires.legal (run_of c.args.scene.now) c.args.operators.now c.operators.operator-index _ c.operators.parts.items c.operators-test.true c.operators.invariant,
+            ),
           ),
         ),
       ),

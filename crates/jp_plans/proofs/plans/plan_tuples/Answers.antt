@@ -19,8 +19,11 @@ done_all-requires g c =
           (
             c.requires.scene,
             (
-              plan_legal scene block c.requires.scene c.has_children_before.ensures,
-              pushed_first c.new-operators.result.items c.push_operators.new.operators.items c.as_slice.result.now _ c.as_slice.ensures.value c.in_ok-push_operators.ensures c.new-operators.ensures.items,
+              c.requires.indexes,
+              (
+                plan_legal scene block c.requires.scene c.has_children_before.ensures,
+                pushed_first c.new-operators.result.items c.push_operators.new.operators.items c.as_slice.result.now _ c.as_slice.ensures.value c.in_ok-push_operators.ensures c.new-operators.ensures.items,
+              ),
             ),
           ),
         ),
