@@ -162,6 +162,7 @@ module _ (run : Execution) (number : ℕ) (block : Block) (env : Env) (can : Can
       fits = subst (FitsOutside run.prepared.now can.runs.can.whole.scope inner) (sym can.around) (item_fits run.prepared.now can.runs.can.whole number block can.there can.outer can.runs.can.fits inner named_in);
     };
     columns = can.runs.columns;
+    indexes = can.runs.indexes;
   }
 
 -- ---- the sides of a Full item
@@ -303,6 +304,7 @@ module _ (run : Execution) (number : ℕ) (around : Around) (interior : Interior
         fits = fits_handed prepared whole (block_of_sublink prepared.blocks sub) env (can.beyond m) params given fits;
       };
       columns = can.runs.columns;
+      indexes = can.runs.indexes;
     }
 
     pub rows_are : (given_by run (block_of_sublink prepared.blocks sub) (env_of_params params)).rows ≡ interior_rows run around interior m sub

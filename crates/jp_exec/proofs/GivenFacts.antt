@@ -38,6 +38,7 @@ module _ (run : Execution) (number : ℕ) (block : Block) (env : Env) (can : Can
         fits = fits_closed run.prepared.now inner closed can.runs.can.whole.scope env;
       };
       columns = can.runs.columns;
+      indexes = can.runs.indexes;
     }
 
     pub one_given : (lent : Lent) → lent.number ≡ sub → lent.rows.items ≡ (given_by run inner env).rows → (old new : List Lent) → new ≡ old ++ lent ∷ [] → AreGiven run old → AreGiven run new

@@ -1,11 +1,12 @@
 -- What it takes to run a block.
-use Rattle.std.specs.Prelude.{◌≡◌, ℕ, ◌<◌, List, length, map}
+use Rattle.std.specs.Prelude.{◌≡◌, ℕ, ◌<◌, List, All, length, map}
 use Rattle.jp_query.specs.Meaning.{Env}
 use Rattle.jp_query.specs.Tables.{TableRows, Belong, rows_of_tables}
 use Rattle.jp_tree.specs.declared.prepared.Block.{Block}
 use Rattle.jp_tree.specs.declared.prepared.Prepared.{Prepared}
 use Rattle.jp_tree.specs.BlockParts.{IsBlockAt}
 use Rattle.jp_tree.specs.Prepared.{IsWhole}
+use Rattle.jp_indexes.specs.Indexes.{IsIndex}
 use Rattle.jp_lists.specs.Lists.{Listing, listing, around_block, rels_of_block, only_rows}
 use Rattle.jp_lists.specs.Seen.{FitsOutside}
 use Rattle.jp_exec.specs.Columns.{listed_columns, named_by}
@@ -34,6 +35,7 @@ side_of run number env = map (only_rows (rels_of_block run.prepared.now.blocks n
 pub record CanRun (run : Execution) (number : ℕ) (env : Env) : Type 0 where
   pub can : CanExecute run.prepared.now (tables_of run) number env
   pub columns : map listed_columns run.columns.now ≡ named_by run.prepared.now (length run.prepared.now.blocks)
+  pub indexes : All (IsIndex (tables_of run)) run.indexes.now
 
 -- the items of the block of this number can be run inside it, where `outer` stands around the block
 pub record CanRunItems (run : Execution) (number : ℕ) (block : Block) (env : Env) : Type 0 where

@@ -24,9 +24,11 @@ use crate::places::{block_of_sublink, own_relations, present_around, relations_o
 use bumpalo::Bump;
 use jp_base::{Memory, RelNo, Row, SubNo};
 use jp_fulls::{full_rows as rows_of_full, side_rows};
+use jp_indexes::Index;
 use jp_items::{Around, ItemRows, Params, RelRows, Source, is_listed};
 use jp_joins::{Lent, Tuple};
 use jp_outputs::sublinks_of;
+use jp_plans::indexes_for;
 use jp_problem::{Item, ItemKind};
 use jp_query::Expr;
 use jp_table::Tables;
@@ -46,11 +48,13 @@ pub fn execute(
     ensures { IfOk result (λ v. v.items ≡ list_of prepared.now (rows_of_tables tables.now.list) block (env_of_params params.now)) }
 {
     let columns = columns_of_blocks(alloc, prepared)?;
+    let indexes = indexes_for(alloc, prepared, tables)?;
     let run = Execution {
         alloc,
         prepared,
         tables,
         columns: columns.as_slice(),
+        indexes: indexes.as_slice(),
     };
     let present = params.present;
     let around = Around {
@@ -61,13 +65,15 @@ pub fn execute(
     Ok(rows)
 }
 
-/// A planned statement with its tables, and for each block the columns that it and the blocks behind it name.
+/// A planned statement with its tables, for each block the columns that it and the blocks behind it name, and indexes for
+/// the scans of blocks that are run at many tuples.
 #[derive(Clone, Copy)]
 pub struct Execution<'x> {
     pub alloc: Global,
     pub prepared: &'x Prepared,
     pub tables: &'x Tables,
     pub columns: &'x [Vec<(RelNo, u32)>],
+    pub indexes: &'x [Index<'x>],
 }
 
 /// The rows that a block lists.

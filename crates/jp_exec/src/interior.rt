@@ -112,7 +112,7 @@ pub fn tuples_inside<'e, 't, S: Fn(Tuple<'t>, SubNo) -> Result<Vec<Row>, Memory>
     ensures { IfOk result (λ v. maps_of v.items ≡ tree_list (interior_run run.now around.now interior.now) block.now.problem (tree_at run.now.prepared.now.pool.nodes block.now.plan)) }
 {
     let scene = scene_in(run, around, interior);
-    let tuples = plan_tuples(run.alloc, &scene, block, subs, arena)?;
+    let tuples = plan_tuples(run.alloc, &scene, run.indexes, block, subs, arena)?;
     Ok(tuples)
 }
 

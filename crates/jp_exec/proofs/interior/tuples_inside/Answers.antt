@@ -1,4 +1,7 @@
-use Rattle.std.proofs.Common.{◌∙◌, ap₂, refl}
+use Rattle.std.proofs.Common.{◌∙◌, ap₂, refl, subst, sym}
+use Rattle.std.specs.Prelude.{All}
+use Rattle.jp_indexes.specs.Indexes.{IsIndex}
+use Rattle.jp_table.specs.declared.table.Tables.{Tables}
 use Rattle.jp_tree.specs.PlanTrees.{tree_at}
 use Rattle.jp_tree.specs.declared.prepared.Prepared.{Prepared}
 use Rattle.jp_lists.specs.Steps.{tree_list}
@@ -13,7 +16,10 @@ plan_tuples-requires g c κs =
         c.requires.can,
         (
           gives_scene c.args.run.now c.args.around.now c.args.interior.now c.scene_in-scene.result e.prepared e.tables e.around e.sources e.layout e.sublinks _ c.requires.gives,
-          is_scene c.args.run.now c.args.around.now c.args.interior.now c.scene_in-scene.result e.prepared e.tables e.around e.sources e.layout e.sublinks c.args.block.now c.requires.inside,
+          (
+            is_scene c.args.run.now c.args.around.now c.args.interior.now c.scene_in-scene.result e.prepared e.tables e.around e.sources e.layout e.sublinks c.args.block.now c.requires.inside,
+            subst (λ (ts : Tables). All (IsIndex ts.list) c.args.run.now.indexes.now) (sym e.tables) c.requires.inside.is.runs.indexes,
+          ),
         ),
       ),
     )
